@@ -95,6 +95,14 @@ impl BoardCaller {
         self.pass.unwrap()
     }
 
+    // Takes the caller's pass for a call, which gives one back.
+    pub(crate) fn take_pass(&mut self) -> BoardPass<Job>
+        requires { IsSome self.old }
+        ensures { self.old ≡ Some result }
+    {
+        self.pass.take().unwrap()
+    }
+
     /// Makes a pad of `lists` reorder lists, 1 to 16, and answers its number. Only want of memory refuses.
     pub fn born_pad<R: Wait>(
         &mut self,
@@ -112,7 +120,7 @@ impl BoardCaller {
             (λ e. (e ≡ BoardErr.Memory) × Unchanged (known self.old) (known self.new)) }
     {
         board_laws();
-        let pass = self.pass.take().unwrap();
+        let pass = self.take_pass();
         let (pass, answer) = board.born_pad(rt, pass, lists);
         self.pass = Some(pass);
         answer
@@ -135,7 +143,7 @@ impl BoardCaller {
             (λ e. (e ≡ BoardErr.Memory) × Unchanged (known self.old) (known self.new)) }
     {
         board_laws();
-        let pass = self.pass.take().unwrap();
+        let pass = self.take_pass();
         let (pass, answer) = board.born_queue(rt, pass, max);
         self.pass = Some(pass);
         answer
@@ -161,7 +169,7 @@ impl BoardCaller {
             (λ e. (e ≡ BoardErr.Memory) × Unchanged (known self.old) (known self.new)) }
     {
         board_laws();
-        let pass = self.pass.take().unwrap();
+        let pass = self.take_pass();
         let (pass, answer) = board.born_chain(rt, pass, max, lists);
         self.pass = Some(pass);
         answer
@@ -191,7 +199,7 @@ impl BoardCaller {
         ensures served { IfErr result (λ e. e ≢ BoardErr.NoWorker) }
     {
         board_laws();
-        let pass = self.pass.take().unwrap();
+        let pass = self.take_pass();
         let (pass, answer) = board.submit(rt, pass, pipe.number, job);
         self.pass = Some(pass);
         answer
@@ -221,7 +229,7 @@ impl BoardCaller {
         ensures served { IfErr result (λ e. e ≢ BoardErr.NoWorker) }
     {
         board_laws();
-        let pass = self.pass.take().unwrap();
+        let pass = self.take_pass();
         let (pass, answer) = board.enqueue(rt, pass, pipe.number, job, backlog);
         self.pass = Some(pass);
         answer
@@ -237,7 +245,7 @@ impl BoardCaller {
         ensures closed { Closed (known self.old) (known self.new) pipe.now }
     {
         board_laws();
-        let pass = self.pass.take().unwrap();
+        let pass = self.take_pass();
         self.pass = Some(board.close(rt, pass, pipe.number));
     }
 
@@ -260,7 +268,7 @@ impl BoardCaller {
             (λ e. (e ≡ BoardErr.Memory) × Unchanged (known self.old) (known self.new)) }
     {
         board_laws();
-        let pass = self.pass.take().unwrap();
+        let pass = self.take_pass();
         let (pass, answer) = board.mask(rt, pass, pipe.number, bits);
         self.pass = Some(pass);
         answer
@@ -283,7 +291,7 @@ impl BoardCaller {
             (λ e. (e ≡ BoardErr.Memory) × Unchanged (known self.old) (known self.new)) }
     {
         board_laws();
-        let pass = self.pass.take().unwrap();
+        let pass = self.take_pass();
         let (pass, answer) = board.hold(rt, pass, pipe.number);
         self.pass = Some(pass);
         answer
@@ -305,7 +313,7 @@ impl BoardCaller {
             (λ e. (e ≡ BoardErr.Memory) × Unchanged (known self.old) (known self.new)) }
     {
         board_laws();
-        let pass = self.pass.take().unwrap();
+        let pass = self.take_pass();
         let (pass, answer) = board.go(rt, pass, pipe.number);
         self.pass = Some(pass);
         answer
@@ -329,7 +337,7 @@ impl BoardCaller {
             (λ e. (e ≡ BoardErr.Memory) × (into.new.list ≡ into.old.list) × Unchanged (known self.old) (known self.new)) }
     {
         board_laws();
-        let pass = self.pass.take().unwrap();
+        let pass = self.take_pass();
         let (pass, answer) = board.poll(rt, pass, pipe.number, into);
         self.pass = Some(pass);
         answer
@@ -355,7 +363,7 @@ impl BoardCaller {
             (λ e. (e ≡ BoardErr.Memory) × (into.new.list ≡ into.old.list) × Unchanged (known self.old) (known self.new)) }
     {
         board_laws();
-        let pass = self.pass.take().unwrap();
+        let pass = self.take_pass();
         let (pass, answer) = drain(rt, board, pass, pipe.number, into, gate);
         self.pass = Some(pass);
         answer
@@ -373,7 +381,7 @@ impl BoardCaller {
         ensures gathered { PeersGone (known self.old) → (pipe : KnownPipe) → KnowsGathered (known self.old) pipe → KnowsGathered (known self.new) pipe }
     {
         sharing_laws();
-        let pass = self.pass.take().unwrap();
+        let pass = self.take_pass();
         self.pass = Some(board.shut(rt, pass));
     }
 }

@@ -158,6 +158,14 @@ impl RegistryCaller {
         self.pass.unwrap()
     }
 
+    // Takes the caller's pass for a call, which gives one back.
+    fn take_pass(&mut self) -> RegPass
+        requires { IsSome self.old }
+        ensures { self.old ≡ Some result }
+    {
+        self.pass.take().unwrap()
+    }
+
     /// Lists a driver of the table that stands on no other, and answers its id. `Exist` comes where its driver equals the name or
     /// the driver of a listed entry, or its name the driver of one; otherwise `NFile` where 4,096 entries are held. Both are
     /// recorded. Only want of memory stops it, and then nothing is recorded.
@@ -175,7 +183,7 @@ impl RegistryCaller {
         ensures { MatchResult result (λ how. Asks self.old self.new (Enlists spec how ∷ [])) (λ _. Asks self.old self.new []) }
     {
         call_laws();
-        let pass = self.pass.take().unwrap();
+        let pass = self.take_pass();
         let (pass, answer) = registry.enlist(rt, pass, spec);
         self.pass = Some(pass);
         enlisted(answer)
@@ -196,7 +204,7 @@ impl RegistryCaller {
             (λ _. Asks self.old self.new []) }
     {
         call_laws();
-        let pass = self.pass.take().unwrap();
+        let pass = self.take_pass();
         let (pass, answer) = registry.unlist(rt, pass, driver);
         self.pass = Some(pass);
         unlisted(answer)
@@ -215,7 +223,7 @@ impl RegistryCaller {
         ensures { MatchResult result (λ ok. Asks self.old self.new (Gets id ok ∷ [])) (λ _. Asks self.old self.new []) }
     {
         call_laws();
-        let pass = self.pass.take().unwrap();
+        let pass = self.take_pass();
         let (pass, answer) = registry.take_ref(rt, pass, id);
         self.pass = Some(pass);
         got(answer)
@@ -230,7 +238,7 @@ impl RegistryCaller {
     {
         references_follow();
         call_laws();
-        let pass = self.pass.take().unwrap();
+        let pass = self.take_pass();
         self.pass = Some(registry.put_ref(rt, pass, id));
     }
 
@@ -247,7 +255,7 @@ impl RegistryCaller {
         ensures { MatchResult result (λ refs. Asks self.old self.new (Counts driver.now refs ∷ [])) (λ _. Asks self.old self.new []) }
     {
         call_laws();
-        let pass = self.pass.take().unwrap();
+        let pass = self.take_pass();
         let (pass, answer) = registry.refs(rt, pass, driver);
         self.pass = Some(pass);
         counted(answer)
@@ -260,7 +268,7 @@ impl RegistryCaller {
         ensures { MatchResult result (λ rows. Asks self.old self.new (Lists rows ∷ [])) (λ _. Asks self.old self.new []) }
     {
         call_laws();
-        let pass = self.pass.take().unwrap();
+        let pass = self.take_pass();
         let (pass, answer) = registry.list(rt, pass);
         self.pass = Some(pass);
         listed(answer)
@@ -282,7 +290,7 @@ impl RegistryCaller {
         ensures { MatchResult result (λ found. Finds self.old self.new (spelling name.now) found) (λ _. SeesLook self.old self.new (spelling name.now)) }
     {
         call_laws();
-        let pass = self.pass.take().unwrap();
+        let pass = self.take_pass();
         let (pass, answer) = resolve(rt, alloc, registry, pass, name, false);
         self.pass = Some(pass);
         found(answer)
@@ -304,7 +312,7 @@ impl RegistryCaller {
     {
         registry_calls_go_on();
         call_laws();
-        let pass = self.pass.take().unwrap();
+        let pass = self.take_pass();
         let (pass, answer) = registry.origin(rt, pass, id);
         self.pass = Some(pass);
         origin_of(answer)
@@ -328,7 +336,7 @@ impl RegistryCaller {
     {
         learn_name(&name);
         let text = print_name(alloc, &name)?;
-        let pass = self.pass.take().unwrap();
+        let pass = self.take_pass();
         let (pass, answer) = registry.look(rt, pass, text.as_slice(), false);
         self.pass = Some(pass);
         let looked = looked(answer)?;
@@ -344,7 +352,7 @@ impl RegistryCaller {
             (λ _. Goes self.old self.new []) }
     {
         registry_calls_go_on();
-        let pass = self.pass.take().unwrap();
+        let pass = self.take_pass();
         let (pass, answer) = registry.origin(rt, pass, id);
         self.pass = Some(pass);
         origin_of(answer)
@@ -365,7 +373,7 @@ impl RegistryCaller {
         ensures { MatchResult result (λ found. Settles self.old self.new look.now.looked found) (λ _. Builds self.old self.new) }
     {
         registry_calls_go_on();
-        let pass = self.pass.take().unwrap();
+        let pass = self.take_pass();
         let (pass, answer) = settle(rt, alloc, registry, pass, &look.name, look.looked);
         self.pass = Some(pass);
         match found(answer)? {

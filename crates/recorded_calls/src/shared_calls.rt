@@ -115,7 +115,7 @@ impl BoardCaller {
             (λ e. (e ≡ BoardErr.Memory) × Unchanged (known self.old) (known self.new)) }
     {
         sharing_laws();
-        let pass = self.pass.take().unwrap();
+        let pass = self.take_pass();
         let (pass, answer) = board.share(rt, pass, pipe.number);
         self.pass = Some(pass);
         answer
@@ -143,7 +143,7 @@ impl BoardCaller {
         ensures served { IfErr result (λ e. e ≢ BoardErr.NoWorker) }
     {
         sharing_laws();
-        let pass = self.pass.take().unwrap();
+        let pass = self.take_pass();
         let (pass, answer) = board.submit(rt, pass, pipe.number, job);
         self.pass = Some(pass);
         answer
@@ -171,7 +171,7 @@ impl BoardCaller {
         ensures served { IfErr result (λ e. e ≢ BoardErr.NoWorker) }
     {
         sharing_laws();
-        let pass = self.pass.take().unwrap();
+        let pass = self.take_pass();
         let (pass, answer) = board.enqueue(rt, pass, pipe.number, job, backlog);
         self.pass = Some(pass);
         answer
@@ -186,7 +186,7 @@ impl BoardCaller {
         ensures gives { known self.new ≡ gives_number number (known self.old) }
         ensures gets { knows result ≡ gets_number number (known self.old) }
     {
-        let pass = self.pass.take().unwrap();
+        let pass = self.take_pass();
         let (own, other) = board.split(pass, number);
         self.pass = Some(own);
         other
@@ -200,7 +200,7 @@ impl BoardCaller {
         ensures joined { known self.new ≡ joined (known self.old) (knows other) }
         ensures seen { StartsWith (known self.new).seen (known self.old).seen × StartsWith (known self.new).seen (knows other).seen }
     {
-        let pass = self.pass.take().unwrap();
+        let pass = self.take_pass();
         self.pass = Some(board.join(pass, other));
     }
 
@@ -217,7 +217,7 @@ impl BoardCaller {
         ensures gone { HaveEnded (known self.old) → PeersGone (known self.new) }
     {
         sharing_laws();
-        let pass = self.pass.take().unwrap();
+        let pass = self.take_pass();
         let (pass, _) = board.is_shut(rt, pass);
         self.pass = Some(pass);
     }
@@ -241,7 +241,7 @@ impl BoardCaller {
             (λ e. (e ≡ BoardErr.Memory) × (pipe.new ≡ pipe.old)) }
     {
         sharing_laws();
-        let pass = self.pass.take().unwrap();
+        let pass = self.take_pass();
         let (pass, asks) = board.asks(rt, pass, pipe.number);
         self.pass = Some(pass);
         let lines = lines_read(alloc, asks)?;
@@ -267,7 +267,7 @@ impl BoardCaller {
             (λ e. (e ≡ BoardErr.Memory) × Beside (known self.old) (known self.new)) }
     {
         sharing_laws();
-        let pass = self.pass.take().unwrap();
+        let pass = self.take_pass();
         let (pass, answer) = board.go(rt, pass, pipe.number);
         self.pass = Some(pass);
         answer
@@ -293,7 +293,7 @@ impl BoardCaller {
             (λ e. (e ≡ BoardErr.Memory) × (into.new.list ≡ into.old.list) × Unchanged (known self.old) (known self.new) × ((known self.new).ended ≡ (known self.old).ended)) }
     {
         sharing_laws();
-        let pass = self.pass.take().unwrap();
+        let pass = self.take_pass();
         let (pass, answer) = drain(rt, board, pass, pipe.number, into, gate);
         self.pass = Some(pass);
         answer
