@@ -1,5 +1,5 @@
 -- What of a key seals eight texts in step, and the sealings that it takes.
-use Rattle.std.specs.Prelude.{◌≡◌, ◌≤◌, ◌<◌, ◌+◌, ◌^◌, ◌%◌, ◌==◌, nat_le, Bool, true, ℕ, ◌++◌, List, length, take, drop, replicate, slice_index}
+use Rattle.std.specs.Prelude.{◌≡◌, ◌≤◌, ◌<◌, ◌+◌, ◌^◌, ◌%◌, ◌==◌, Bool, true, ℕ, ◌++◌, List, length, take, drop, replicate, slice_index}
 use Rattle.std.specs.Borrow.{Bor}
 use Rattle.std.specs.Option.{option_map}
 use Rattle.in_step.specs.Pieces.{piece}

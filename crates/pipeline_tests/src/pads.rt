@@ -87,8 +87,7 @@ fn submit<W: Work>(
 fn work<W: Work>(board: &mut BoardCore<W>, worker: u32, pipe: u64) -> bool
     requires { IsOpenFor is_pad board.old pipe 0 }
     ensures open { IsOpenFor is_pad board.new pipe 0 }
-    ensures others { (other p n : ℕ) (out : W.Out) → worker ≢ other → MayFinish W.meaning (entries_of p board.old) other n out
-        → MayFinish W.meaning (entries_of p board.new) other n out }
+    ensures others { (other p n : ℕ) (out : W.Out) → worker ≢ other → MayFinish W.meaning (entries_of p board.old) other n out → MayFinish W.meaning (entries_of p board.new) other n out }
 {
     pipelines_stay::<W::Ask>();
     slips_stay::<W::Ask, W::Out>();
@@ -110,8 +109,7 @@ fn drain<W: Work>(
 ) -> Result<bool, BoardErr>
     requires { IsOpenFor is_pad board.old pipe 0 }
     ensures open { IsOpenFor is_pad board.new pipe 0 }
-    ensures others { (other p n : ℕ) (out : W.Out) → 0 ≢ other → MayFinish W.meaning (entries_of p board.old) other n out
-        → MayFinish W.meaning (entries_of p board.new) other n out }
+    ensures others { (other p n : ℕ) (out : W.Out) → 0 ≢ other → MayFinish W.meaning (entries_of p board.old) other n out → MayFinish W.meaning (entries_of p board.new) other n out }
 {
     pipelines_stay::<W::Ask>();
     slips_stay::<W::Ask, W::Out>();

@@ -61,8 +61,7 @@ pub(crate) fn go<W: Work>(board: &mut BoardCore<W>, pipe: u64) -> Result<(), Boa
 pub(crate) fn serve<W: Work>(board: &mut BoardCore<W>, worker: u32, pipe: u64) -> bool
     requires { IsOpenFor has_line board.old pipe 0 }
     ensures open { IsOpenFor has_line board.new pipe 0 }
-    ensures others { (other p n : ℕ) (out : W.Out) → worker ≢ other → MayFinish W.meaning (entries_of p board.old) other n out
-        → MayFinish W.meaning (entries_of p board.new) other n out }
+    ensures others { (other p n : ℕ) (out : W.Out) → worker ≢ other → MayFinish W.meaning (entries_of p board.old) other n out → MayFinish W.meaning (entries_of p board.new) other n out }
 {
     pipelines_stay::<W::Ask>();
     slips_stay::<W::Ask, W::Out>();
@@ -84,8 +83,7 @@ pub(crate) fn poll<W: Work>(
 ) -> Result<(), BoardErr>
     requires { IsOpenFor has_line board.old pipe 0 }
     ensures open { IsOpenFor has_line board.new pipe 0 }
-    ensures others { (other p n : ℕ) (out : W.Out) → 0 ≢ other → MayFinish W.meaning (entries_of p board.old) other n out
-        → MayFinish W.meaning (entries_of p board.new) other n out }
+    ensures others { (other p n : ℕ) (out : W.Out) → 0 ≢ other → MayFinish W.meaning (entries_of p board.old) other n out → MayFinish W.meaning (entries_of p board.new) other n out }
 {
     pipelines_stay::<W::Ask>();
     slips_stay::<W::Ask, W::Out>();
