@@ -191,7 +191,8 @@ impl BoardCaller {
         requires manned { pipe.now.mask_is_empty ≡ false }
         ensures lock { lock_of self.new ≡ lock_of self.old }
         ensures submitted { MatchResult result
-            (λ number. Changed (known self.old) (known self.new) pipe.now (with_ask pipe.now (arc_value job.ask)) (Submits pipe.now.number number (asked_by (arc_value job.ask)) ∷ []) (arc_value job.ask ∷ []))
+            (λ number. Changed (known self.old) (known self.new) pipe.now (with_ask pipe.now (arc_value job.ask))
+            (Submits pipe.now.number number (asked_by (arc_value job.ask)) ∷ []) (arc_value job.ask ∷ []))
             (λ _. Unchanged (known self.old) (known self.new)) }
         ensures allowed { MatchResult result
             (λ _. IsAllowed ask_size (known self.old).seen (known self.old).number (arc_value job.ask))
@@ -221,7 +222,8 @@ impl BoardCaller {
         requires queue { IsQueue pipe.now.bound }
         ensures lock { lock_of self.new ≡ lock_of self.old }
         ensures entered { MatchResult result
-            (λ answer. Changed (known self.old) (known self.new) pipe.now (entered_pipe pipe.now (arc_value job.ask) answer) (Enqueues pipe.now.number (asked_by (arc_value job.ask)) backlog answer ∷ []) (entered_asks (arc_value job.ask) answer))
+            (λ answer. Changed (known self.old) (known self.new) pipe.now (entered_pipe pipe.now (arc_value job.ask) answer)
+            (Enqueues pipe.now.number (asked_by (arc_value job.ask)) backlog answer ∷ []) (entered_asks (arc_value job.ask) answer))
             (λ _. Unchanged (known self.old) (known self.new)) }
         ensures allowed { MatchResult result
             (λ _. IsAllowed ask_size (known self.old).seen (known self.old).number (arc_value job.ask))
@@ -264,7 +266,8 @@ impl BoardCaller {
         requires bits { bits < 2 ^ width_born (birth (entries_of pipe.now.number (known self.old).seen)) }
         ensures lock { lock_of self.new ≡ lock_of self.old }
         ensures masked { MatchResult result
-            (λ _. Changed (known self.old) (known self.new) pipe.now (record (pipe.now) { mask_is_empty = bits == 0 }) (Masks pipe.now.number bits ∷ []) [])
+            (λ _. Changed (known self.old) (known self.new) pipe.now (record (pipe.now) { mask_is_empty = bits == 0 })
+            (Masks pipe.now.number bits ∷ []) [])
             (λ e. (e ≡ BoardErr.Memory) × Unchanged (known self.old) (known self.new)) }
     {
         board_laws();
@@ -333,7 +336,9 @@ impl BoardCaller {
         requires pipe { KnowsPipe (known self.old) pipe.now }
         ensures lock { lock_of self.new ≡ lock_of self.old }
         ensures polled { MatchResult result
-            (λ _. (callbacks : List (Told Outcome)) × (all : Bool) × (into.new.list ≡ into.old.list ++ callbacks) × Polled (known self.old) (known self.new) pipe.now callbacks all × AreWithin (length pipe.now.lines) (accepted_by (known self.old).number (known self.old).seen) callbacks)
+            (λ _. (callbacks : List (Told Outcome)) × (all : Bool) × (into.new.list ≡ into.old.list ++ callbacks)
+            × Polled (known self.old) (known self.new) pipe.now callbacks all
+            × AreWithin (length pipe.now.lines) (accepted_by (known self.old).number (known self.old).seen) callbacks)
             (λ e. (e ≡ BoardErr.Memory) × (into.new.list ≡ into.old.list) × Unchanged (known self.old) (known self.new)) }
     {
         board_laws();
@@ -359,7 +364,10 @@ impl BoardCaller {
         requires pipe { KnowsPipe (known self.old) pipe.now }
         ensures lock { lock_of self.new ≡ lock_of self.old }
         ensures drained { MatchResult result
-            (λ _. (callbacks : List (Told Outcome)) × (into.new.list ≡ into.old.list ++ callbacks) × Drained (known self.old) (known self.new) pipe.now callbacks × (pipe.now.delivered + completions callbacks ≡ length pipe.now.lines) × AreWithin (length pipe.now.lines) (accepted_by (known self.old).number (known self.old).seen) callbacks)
+            (λ _. (callbacks : List (Told Outcome)) × (into.new.list ≡ into.old.list ++ callbacks)
+            × Drained (known self.old) (known self.new) pipe.now callbacks
+            × (pipe.now.delivered + completions callbacks ≡ length pipe.now.lines)
+            × AreWithin (length pipe.now.lines) (accepted_by (known self.old).number (known self.old).seen) callbacks)
             (λ e. (e ≡ BoardErr.Memory) × (into.new.list ≡ into.old.list) × Unchanged (known self.old) (known self.new)) }
     {
         board_laws();
@@ -378,7 +386,8 @@ impl BoardCaller {
         ensures lock { lock_of self.new ≡ lock_of self.old }
         ensures shut { IsShut (known self.old) (known self.new) }
         ensures ended { (known self.new).ended ≡ (known self.old).ended }
-        ensures gathered { PeersGone (known self.old) → (pipe : KnownPipe) → KnowsGathered (known self.old) pipe → KnowsGathered (known self.new) pipe }
+        ensures gathered { PeersGone (known self.old) → (pipe : KnownPipe)
+            → KnowsGathered (known self.old) pipe → KnowsGathered (known self.new) pipe }
     {
         sharing_laws();
         let pass = self.take_pass();

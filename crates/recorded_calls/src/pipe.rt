@@ -81,5 +81,12 @@ impl Model for PipelineView {
 
     ghost Value = { Known };
 
-    ghost view = { λ p. record { number = p.number; bound = p.bound; held = p.held; mask_is_empty = p.mask_is_empty; lines = p.lines; delivered = p.delivered } };
+    ghost view = { λ p. record {
+      number = p.number;
+      bound = p.bound;
+      held = p.held;
+      mask_is_empty = p.mask_is_empty;
+      lines = p.lines;
+      delivered = p.delivered;
+    } };
 }

@@ -287,7 +287,9 @@ impl RegistryCaller {
         requires at { CallsRegistry registry.now self.old }
         requires caller { IsCaller (known self.old) }
         requires nested { is_nested_well name.now ≡ true }
-        ensures { MatchResult result (λ found. Finds self.old self.new (spelling name.now) found) (λ _. SeesLook self.old self.new (spelling name.now)) }
+        ensures { MatchResult result
+            (λ found. Finds self.old self.new (spelling name.now) found)
+            (λ _. SeesLook self.old self.new (spelling name.now)) }
     {
         call_laws();
         let pass = self.take_pass();

@@ -135,7 +135,8 @@ impl BoardCaller {
         requires manned { pipe.now.mask_is_empty ≡ false }
         ensures lock { lock_of self.new ≡ lock_of self.old }
         ensures submitted { MatchResult result
-            (λ number. Gave (known self.old) (known self.new) (Submits pipe.now.number number (asked_by (arc_value job.ask)) ∷ []) (arc_value job.ask ∷ []))
+            (λ number. Gave (known self.old) (known self.new)
+            (Submits pipe.now.number number (asked_by (arc_value job.ask)) ∷ []) (arc_value job.ask ∷ []))
             (λ _. Unchanged (known self.old) (known self.new)) }
         ensures allowed { MatchResult result
             (λ _. IsAllowed ask_size (known self.old).seen (known self.old).number (arc_value job.ask))
@@ -163,7 +164,8 @@ impl BoardCaller {
         requires queue { IsQueue pipe.now.bound }
         ensures lock { lock_of self.new ≡ lock_of self.old }
         ensures entered { MatchResult result
-            (λ answer. Gave (known self.old) (known self.new) (Enqueues pipe.now.number (asked_by (arc_value job.ask)) backlog answer ∷ []) (entered_asks (arc_value job.ask) answer))
+            (λ answer. Gave (known self.old) (known self.new)
+            (Enqueues pipe.now.number (asked_by (arc_value job.ask)) backlog answer ∷ []) (entered_asks (arc_value job.ask) answer))
             (λ _. Unchanged (known self.old) (known self.new)) }
         ensures allowed { MatchResult result
             (λ _. IsAllowed ask_size (known self.old).seen (known self.old).number (arc_value job.ask))
@@ -289,8 +291,11 @@ impl BoardCaller {
         requires pipe { KnowsGathered (known self.old) pipe.now }
         ensures lock { lock_of self.new ≡ lock_of self.old }
         ensures drained { MatchResult result
-            (λ _. (callbacks : List (Told Outcome)) × (into.new.list ≡ into.old.list ++ callbacks) × DrainedLent (known self.old) (known self.new) pipe.now callbacks × (pipe.now.delivered + completions callbacks ≡ length pipe.now.lines))
-            (λ e. (e ≡ BoardErr.Memory) × (into.new.list ≡ into.old.list) × Unchanged (known self.old) (known self.new) × ((known self.new).ended ≡ (known self.old).ended)) }
+            (λ _. (callbacks : List (Told Outcome)) × (into.new.list ≡ into.old.list ++ callbacks)
+            × DrainedLent (known self.old) (known self.new) pipe.now callbacks
+            × (pipe.now.delivered + completions callbacks ≡ length pipe.now.lines))
+            (λ e. (e ≡ BoardErr.Memory) × (into.new.list ≡ into.old.list) × Unchanged (known self.old) (known self.new)
+            × ((known self.new).ended ≡ (known self.old).ended)) }
     {
         sharing_laws();
         let pass = self.take_pass();
