@@ -107,7 +107,8 @@ impl<'a, G: Gate, R: Threads + Wait + Sync> ClientRun<'a, G, R> {
         requires may { MayRun self.now.workers (arc_value self.now.shared) self.now.parts.now number passes }
         ensures lock { ArePassesOn self.now.board.now self.now.registry.now result.0 }
         ensures numbers { KeepNumbers passes result.0 }
-        ensures answers { IfOk result.1 (λ text. ClientAnswers self.now.workers (number - 16) (arc_value self.now.shared) (script_of part.now) result.0 text.reply.text text.malformed) }
+        ensures answers { IfOk result.1 (λ text. ClientAnswers self.now.workers (number - 16) (arc_value self.now.shared)
+            (script_of part.now) result.0 text.reply.text text.malformed) }
     {
         laws();
         shared_is_known();
@@ -148,9 +149,11 @@ impl<'a, G: Gate, R: Threads + Wait + Sync> Peer<Passes<Ask>> for ClientRun<'a, 
     ghost use Rattle.crew.specs.Both.{ArePassesOn};
     ghost use Rattle.client_run.specs.Parts.{MayRun, ClientRan};
 
-    ghost can_run = { λ run n p. IsSync R.row × ArePassesOn run.board.now run.registry.now p × (17 ≤ n → MayRun run.workers (arc_value run.shared) run.parts.now n p) };
+    ghost can_run = { λ run n p. IsSync R.row × ArePassesOn run.board.now run.registry.now p
+        × (17 ≤ n → MayRun run.workers (arc_value run.shared) run.parts.now n p) };
 
-    ghost gives = { λ run n p q x. ArePassesOn run.board.now run.registry.now q × ClientRan run.workers (arc_value run.shared) run.parts.now n p q x };
+    ghost gives = { λ run n p q x. ArePassesOn run.board.now run.registry.now q
+        × ClientRan run.workers (arc_value run.shared) run.parts.now n p q x };
 
     fn run(&self, number: u32, passes: Passes<Ask>) -> (Passes<Ask>, Result<ClientText, Stop>) {
         let Some(part) = part_of(self.parts, number) else {

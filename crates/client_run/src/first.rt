@@ -49,7 +49,8 @@ pub fn open_first<G: Gate, R: Threads + Wait + Sync>(
     ensures lock { ArePassesOn board.now registry.now result.0 }
     ensures registry { HasSeenMore (knows passes.registry) (knows result.0.registry) }
     ensures board { SeesOn (knows passes.board) (knows result.0.board) }
-    ensures opened { IfOk result.1 (λ opened. FirstOpens workers (script_of part.now) (arc_value opened.shared) result.0 opened.reply.text opened.malformed) }
+    ensures opened { IfOk result.1 (λ opened. FirstOpens workers (script_of part.now) (arc_value opened.shared)
+        result.0 opened.reply.text opened.malformed) }
 {
     laws();
     let Passes {

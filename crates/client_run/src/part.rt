@@ -59,7 +59,9 @@ pub fn answer_part<G: Gate, R: Threads + Wait + Sync>(
     requires ready { IsReady registry.now board.now session.old }
     requires short { length part.now ≤ 2 ^ 28 }
     ensures done { MatchResult result
-        (λ _. Replies (widest (script_of part.now)) (lines_dialogue session.old.workers session.old.script_state 1 (script_of part.now) EndsThere) session.old session.new reply.old.text reply.new.text)
+        (λ _. Replies (widest (script_of part.now))
+        (lines_dialogue session.old.workers session.old.script_state 1 (script_of part.now) EndsThere)
+        session.old session.new reply.old.text reply.new.text)
         (λ _. Stops session.old session.new) }
     ensures ready { OnOk result (IsReady registry.now board.now session.new) }
     ensures malformed { IfOk result (λ bad. bad ≡ list_any is_malformed (script_of part.now)) }

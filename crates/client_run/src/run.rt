@@ -39,7 +39,8 @@ fn zeros(alloc: Global, count: usize) -> Result<Vec<u8>, AllocError>
 
 // Reads all that the source has, at most `MAX_INPUT` bytes.
 fn read_whole<S: Source>(alloc: Global, src: &mut S) -> Result<Bytes, RunError>
-    ensures whole { IfOk result (λ input. Consumes (S.left src.old) (S.left src.new) input × IsAtEnd (S.left src.new) × (length input ≤ 2 ^ 28)) }
+    ensures whole { IfOk result (λ input. Consumes (S.left src.old) (S.left src.new) input
+        × IsAtEnd (S.left src.new) × (length input ≤ 2 ^ 28)) }
     ensures read { ReadsUpTo (S.left src.old) (S.left src.new) (IsErrOf result RunError.TooLong) }
     ensures cause { IsErrOf result RunError.ReadFault → Rose (S.faults src.old) (S.faults src.new) }
     ensures causes { IfErr result (λ e. (e ≡ RunError.ReadFault) ⊎ (e ≡ RunError.NoMemory) ⊎ (e ≡ RunError.TooLong)) }
@@ -95,10 +96,12 @@ fn write_output<K: Sink>(
     board: &BoardLog<Ask>,
     out: &mut K,
 ) -> Result<bool, RunError>
-    ensures whole { IfOk result (λ bad. IsOk output × IfOk output (λ o. (bad ≡ o.malformed) × Appends (K.held out.old) (K.held out.new) (printed_by o ++ traced trace registry.now board.now))) }
+    ensures whole { IfOk result (λ bad. IsOk output × IfOk output (λ o. (bad ≡ o.malformed)
+        × Appends (K.held out.old) (K.held out.new) (printed_by o ++ traced trace registry.now board.now))) }
     ensures nothing { OnErr output (result ≡ Err RunError.NoMemory) }
     ensures fits { trace ≡ true → OnOk result (FitTypes ask_origin registry.now board.now) }
-    ensures front { OnErr result (Keeps (K.held out.old) (K.held out.new) ⊎ (IsOk output × IfOk output (λ o. AppendsFront (K.held out.old) (K.held out.new) (printed_by o ++ traced trace registry.now board.now)))) }
+    ensures front { OnErr result (Keeps (K.held out.old) (K.held out.new) ⊎ (IsOk output × IfOk output
+        (λ o. AppendsFront (K.held out.old) (K.held out.new) (printed_by o ++ traced trace registry.now board.now)))) }
     ensures cause { IsErrOf result RunError.WriteFault → Rose (K.faults out.old) (K.faults out.new) }
     ensures causes { IfErr result (λ e. (e ≡ RunError.WriteFault) ⊎ (e ≡ RunError.NoMemory)) }
 {
@@ -121,7 +124,8 @@ fn run_cut<K: Sink, G: Gate + Sync, R: Threads + Wait + Sync>(
     requires clients { (1 ≤ options.now.clients) × (options.now.clients ≤ 8) }
     requires count { length parts.now ≡ options.now.clients + 1 }
     requires short { All (λ part. length part ≤ 2 ^ 28) parts.now }
-    ensures ran { RanParts options.now.workers options.now.clients options.now.trace parts.now (K.held out.old) (K.held out.new) result.registry result.board result.answer }
+    ensures ran { RanParts options.now.workers options.now.clients options.now.trace parts.now
+        (K.held out.old) (K.held out.new) result.registry result.board result.answer }
     ensures write_fault { IsErrOf result.answer RunError.WriteFault → Rose (K.faults out.old) (K.faults out.new) }
 {
     let Some((first, rest)) = parts.split_first() else {
@@ -155,7 +159,8 @@ pub fn run_clients<S: Source, K: Sink, G: Gate + Sync, R: Threads + Wait + Sync>
 ) -> RunResult
     requires few { options.now.workers ≤ 16 }
     requires clients { (1 ≤ options.now.clients) × (options.now.clients ≤ 8) }
-    ensures ran { RanClients options.now.workers options.now.clients options.now.trace (status_of result.answer) (S.left src.old) (S.left src.new) (K.held out.old) (K.held out.new) result.registry result.board }
+    ensures ran { RanClients options.now.workers options.now.clients options.now.trace (status_of result.answer)
+        (S.left src.old) (S.left src.new) (K.held out.old) (K.held out.new) result.registry result.board }
     ensures read_fault { IsErrOf result.answer RunError.ReadFault → Rose (S.faults src.old) (S.faults src.new) }
     ensures write_fault { IsErrOf result.answer RunError.WriteFault → Rose (K.faults out.old) (K.faults out.new) }
     ensures too_long { ReadsUpTo (S.left src.old) (S.left src.new) (IsErrOf result.answer RunError.TooLong) }

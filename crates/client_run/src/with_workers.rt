@@ -140,7 +140,8 @@ fn put_texts(
     first: ClientText,
 ) -> Result<Output, AllocError>
     requires few { IfOk outs (λ outs. length outs.items ≤ 8) }
-    ensures texts { IfOk result (λ now. IsOk outs × IfOk outs (λ outs. PutsTexts outs.items first.reply.text (printed_by now) first.malformed now.malformed)) }
+    ensures texts { IfOk result (λ now. IsOk outs × IfOk outs
+        (λ outs. PutsTexts outs.items first.reply.text (printed_by now) first.malformed now.malformed)) }
 {
     let mut left = outs?;
     let mut output = Output::of(alloc, first)?;
@@ -176,7 +177,8 @@ fn end_all<G: Gate, R: Wait>(
     ensures shut { HasShutLast (knows result.0) }
     ensures next { (knows result.0).next ≡ (knows pass).next }
     ensures ended { (knows result.0).ended ≡ (knows pass).ended }
-    ensures done { IfOk result.1 (λ now. IsOk outs × IfOk outs (λ outs. EndsRest shared.now (knows pass) (knows result.0) outs.items first.reply.text (printed_by now) first.malformed now.malformed)) }
+    ensures done { IfOk result.1 (λ now. IsOk outs × IfOk outs (λ outs. EndsRest shared.now (knows pass) (knows result.0)
+        outs.items first.reply.text (printed_by now) first.malformed now.malformed)) }
 {
     end_laws();
     let output = match put_texts(alloc, outs, first) {
@@ -213,7 +215,8 @@ fn answer_rest<G: Gate + Sync, R: Threads + Wait + Sync>(
     requires opens { (lines : List Line) × FirstOpens workers lines (arc_value opened.shared) passes opened.reply.text opened.malformed }
     ensures lock { ArePassesOn board.now registry.now result.0 }
     ensures left { HaveLeft workers (length parts.now) result.0 }
-    ensures answers { IfOk result.1 (λ now. AnswersRest workers (arc_value opened.shared) parts.now passes result.0 opened.reply.text (printed_by now) opened.malformed now.malformed) }
+    ensures answers { IfOk result.1 (λ now. AnswersRest workers (arc_value opened.shared) parts.now passes result.0
+        opened.reply.text (printed_by now) opened.malformed now.malformed) }
 {
     end_laws();
     shared_is_known();
@@ -310,7 +313,9 @@ fn crew_parts<G: Gate + Sync, R: Threads + Wait + Sync>(
     requires lock { ArePassesOn board.now registry.now passes }
     requires first { (knows passes.board ≡ fresh_pass) × (knows passes.registry ≡ fresh_pass) }
     ensures lock { ArePassesOn board.now registry.now result.0 }
-    ensures crewed { (q : _) × HaveLeft workers (length parts.now) q × IfOk result.1 (λ now. AnswersParts workers (script_of first.now) parts.now q (printed_by now) now.malformed) × CrewedOnBoth workers passes q result.0 }
+    ensures crewed { (q : _) × HaveLeft workers (length parts.now) q
+        × IfOk result.1 (λ now. AnswersParts workers (script_of first.now) parts.now q (printed_by now) now.malformed)
+        × CrewedOnBoth workers passes q result.0 }
 {
     let mut main = |passes: Passes<Ask>| -> (Passes<Ask>, Result<Output, AllocError>)
         requires lock { ArePassesOn board.now registry.now passes }

@@ -72,7 +72,8 @@ fn reply_to<G: Gate, R: Threads + Wait + Sync>(
     requires ready { IsReady registry.now board.now session.old }
     requires short { IsShortLine line }
     ensures done { MatchResult result
-        (λ _. Replies (width_of line) (line_dialogue session.old.workers session.old.script_state number line) session.old session.new [] reply.new.text)
+        (λ _. Replies (width_of line) (line_dialogue session.old.workers session.old.script_state number line)
+        session.old session.new [] reply.new.text)
         (λ _. StopsIn (line_dialogue session.old.workers session.old.script_state number line) session.old session.new) }
     ensures ready { OnOk result (IsReady registry.now board.now session.new) }
     ensures unshut { (known session.new.board).number ≡ 0 → is_shut (known session.new.board).seen ≡ false }
@@ -141,11 +142,16 @@ fn run_line<K: Sink, G: Gate, R: Threads + Wait + Sync>(
     requires ready { IsReady registry.now board.now session.old }
     requires short { IsShortLine line }
     ensures done { MatchResult result
-        (λ _. Writes (Replies (width_of line) (line_dialogue session.old.workers session.old.script_state number line) session.old session.new []) (K.held out.old) (K.held out.new))
+        (λ _. Writes
+        (Replies (width_of line) (line_dialogue session.old.workers session.old.script_state number line) session.old session.new [])
+        (K.held out.old) (K.held out.new))
         (λ _. Breaks (line_dialogue session.old.workers session.old.script_state number line) session.old session.new
-        (Replies (width_of line) (line_dialogue session.old.workers session.old.script_state number line) session.old session.new []) (K.held out.old) (K.held out.new)) }
+        (Replies (width_of line) (line_dialogue session.old.workers session.old.script_state number line) session.old session.new [])
+        (K.held out.old) (K.held out.new)) }
     ensures cut { IsErrOf result SinkError.Failed →
-        Cuts (Replies (width_of line) (line_dialogue session.old.workers session.old.script_state number line) session.old session.new []) (K.held out.old) (K.held out.new) }
+        Cuts
+        (Replies (width_of line) (line_dialogue session.old.workers session.old.script_state number line) session.old session.new [])
+        (K.held out.old) (K.held out.new) }
     ensures ready { OnOk result (IsReady registry.now board.now session.new) }
     ensures unshut { (known session.new.board).number ≡ 0 → is_shut (known session.new.board).seen ≡ false }
     ensures malformed { IfOk result (λ bad. bad ≡ is_malformed line) }
@@ -171,7 +177,8 @@ fn run_end<K: Sink, G: Gate, R: Wait>(
     requires first { (known session.old.board).number ≡ 0 }
     ensures done { MatchResult result
         (λ _. Writes (AnswersEnd session.old session.new []) (K.held out.old) (K.held out.new))
-        (λ _. Breaks (end session.old.script_state) session.old session.new (AnswersAndShuts session.old session.new) (K.held out.old) (K.held out.new)) }
+        (λ _. Breaks (end session.old.script_state) session.old session.new (AnswersAndShuts session.old session.new)
+        (K.held out.old) (K.held out.new)) }
     ensures cut { IsErrOf result SinkError.Failed → Cuts (AnswersAndShuts session.old session.new) (K.held out.old) (K.held out.new) }
     ensures shut { OnOk result (EndsShut (known session.new.board)) }
     ensures unshut { IsUnshutOrEnds (known session.new.board) }

@@ -88,7 +88,9 @@ fn crew_load<G: Gate + Sync, R: Threads + Wait + Sync>(
     requires lock { ArePassesOn board.now registry.now passes }
     requires first { (knows passes.board ≡ fresh_pass) × (knows passes.registry ≡ fresh_pass) }
     ensures lock { ArePassesOn board.now registry.now result.0 }
-    ensures crewed { (p q : _) × HaveNext options.now.workers passes p × Loads options.now.workers options.now.seed options.now.count p q result.1 × CrewedOnBoth options.now.workers passes q result.0 }
+    ensures crewed { (p q : _) × HaveNext options.now.workers passes p
+        × Loads options.now.workers options.now.seed options.now.count p q result.1
+        × CrewedOnBoth options.now.workers passes q result.0 }
 {
     let mut main = |passes: Passes<Ask>| -> (Passes<Ask>, Result<[u8; 32], AllocError>)
         requires lock { ArePassesOn board.now registry.now passes }
@@ -196,7 +198,8 @@ pub fn run_load<K: Sink, G: Gate + Sync, R: Threads + Wait + Sync>(
     ensures fine { IfOk result.answer (λ bad. bad ≡ false) }
     ensures loaded { OnOk result.answer (AreLoaded options.now.seed options.now.count result.board) }
     ensures shut { OnOk result.answer (EndsShut result.board) }
-    ensures closed { IsShutOnce options.now.workers result.board ⊎ ((result.answer ≡ Err RunError.NoMemory) × (result.registry ≡ []) × (result.board ≡ [])) }
+    ensures closed { IsShutOnce options.now.workers result.board
+        ⊎ ((result.answer ≡ Err RunError.NoMemory) × (result.registry ≡ []) × (result.board ≡ [])) }
     ensures callers { AreCallers options.now.workers result.registry result.board }
     ensures legal { LegalReg result.registry }
     ensures legal_board { LegalBoard result.board }

@@ -51,7 +51,9 @@ fn perform_line<R: Threads + Wait + Sync>(
     requires short { IsShortLine line }
     requires narrow { width_of line ≡ 1 }
     requires no_collect { hands_out line ≡ false }
-    ensures on { OnOk result ((later : Made → Dialogue) → PerformsOn (followed (line_dialogue session.old.workers session.old.script_state number line) later) later session.old session.new hasher.old hasher.new) }
+    ensures on { OnOk result ((later : Made → Dialogue)
+        → PerformsOn (followed (line_dialogue session.old.workers session.old.script_state number line) later) later
+        session.old session.new hasher.old hasher.new) }
     ensures ready { OnOk result (IsReady registry.now board.now session.new) }
     ensures goes_on { GoesOn session.old session.new }
     ensures unshut { (known session.new.board).number ≡ 0 → is_shut (known session.new.board).seen ≡ false }
@@ -99,7 +101,9 @@ fn hold_opening<R: Threads + Wait + Sync>(
     hasher: &mut Sha256,
 ) -> Result<(), AllocError>
     requires ready { IsReady registry.now board.now session.old }
-    ensures on { OnOk result ((later : Made → Dialogue) → PerformsOn (lines_dialogue session.old.workers session.old.script_state 0 opening later) later session.old session.new hasher.old hasher.new) }
+    ensures on { OnOk result ((later : Made → Dialogue)
+        → PerformsOn (lines_dialogue session.old.workers session.old.script_state 0 opening later) later
+        session.old session.new hasher.old hasher.new) }
     ensures ready { OnOk result (IsReady registry.now board.now session.new) }
     ensures goes_on { GoesOn session.old session.new }
     ensures unshut { (known session.new.board).number ≡ 0 → is_shut (known session.new.board).seen ≡ false }
@@ -123,7 +127,10 @@ fn hold_request<R: Threads + Wait + Sync>(
     number: u32,
 ) -> Result<(), AllocError>
     requires ready { IsReady registry.now board.now session.old }
-    ensures on { OnOk result ((later : Made → Dialogue) → PerformsOn (followed (line_dialogue session.old.workers session.old.script_state number (request_line (asked_for number (drawn_request generator.old)))) later) later session.old session.new hasher.old hasher.new) }
+    ensures on { OnOk result ((later : Made → Dialogue)
+        → PerformsOn (followed (line_dialogue session.old.workers session.old.script_state number
+        (request_line (asked_for number (drawn_request generator.old)))) later) later
+        session.old session.new hasher.old hasher.new) }
     ensures drawn { OnOk result (generator.new ≡ (drawn_request generator.old).after) }
     ensures ready { OnOk result (IsReady registry.now board.now session.new) }
     ensures goes_on { GoesOn session.old session.new }
@@ -145,7 +152,9 @@ fn hold_requests<R: Threads + Wait + Sync>(
     count: u32,
 ) -> Result<(), AllocError>
     requires ready { IsReady registry.now board.now session.old }
-    ensures on { OnOk result (PerformsOn (lines_dialogue session.old.workers session.old.script_state 0 (request_lines seed count) end) end session.old session.new hasher.old hasher.new) }
+    ensures on { OnOk result
+        (PerformsOn (lines_dialogue session.old.workers session.old.script_state 0 (request_lines seed count) end) end
+        session.old session.new hasher.old hasher.new) }
     ensures ready { OnOk result (IsReady registry.now board.now session.new) }
     ensures goes_on { GoesOn session.old session.new }
     ensures unshut { (known session.new.board).number ≡ 0 → is_shut (known session.new.board).seen ≡ false }
@@ -178,7 +187,8 @@ fn hold_end<G: Gate, R: Wait>(
 ) -> Result<(), AllocError>
     requires ready { IsReady registry.now board.now session.old }
     requires first { (known session.old.board).number ≡ 0 }
-    ensures on { OnOk result ((whole : Dialogue) → IsHeld whole (end session.old.script_state) session.old hasher.old → IsHeld whole (Ends session.old.script_state) session.new hasher.new) }
+    ensures on { OnOk result ((whole : Dialogue) → IsHeld whole (end session.old.script_state) session.old hasher.old
+        → IsHeld whole (Ends session.old.script_state) session.new hasher.new) }
     ensures own { OnOk result (IsOwn caller_of (known session.new.registry)) }
     ensures shut { OnOk result (EndsShut (known session.new.board)) }
     ensures goes_on { GoesOn session.old session.new }

@@ -64,7 +64,8 @@ fn answer_traced<K: Sink>(
     board: &BoardLog<Ask>,
     out: &mut K,
 ) -> Result<bool, RunError>
-    ensures whole { IfOk result (λ bad. (answer ≡ Ok bad) × Appends (K.held out.old) (K.held out.new) (traced trace registry.now board.now)) }
+    ensures whole { IfOk result (λ bad. (answer ≡ Ok bad)
+        × Appends (K.held out.old) (K.held out.new) (traced trace registry.now board.now)) }
     ensures fits { trace ≡ true → OnOk result (FitTypes ask_origin registry.now board.now) }
     ensures front { IfErr result (λ e. ((answer ≡ Err e) × Keeps (K.held out.old) (K.held out.new))
         ⊎ ((bad : Bool) × (answer ≡ Ok bad) × AppendsFront (K.held out.old) (K.held out.new) (traced trace registry.now board.now))) }
@@ -92,23 +93,38 @@ pub fn run_traced<S: Source, K: Sink, G: Gate + Sync, R: Threads + Wait + Sync>(
 ) -> RunResult
     requires few { options.now.workers ≤ 16 }
     ensures ended { OnOk result.answer (IfSome (S.left src.old) (λ _. S.left src.new ≡ Some [])) }
-    ensures whole { OnOk result.answer (IfSome (S.left src.old) (λ script. GainsThen (K.held out.old) (K.held out.new) (IsText options.now.workers (start 0) 0 (script_of script) result.registry result.board) (traced options.now.trace result.registry result.board))) }
-    ensures readable { options.now.trace ≡ true → OnOk result.answer (IfSome (S.left src.old) (λ _. CanBeRead result.registry result.board)) }
+    ensures whole { OnOk result.answer (IfSome (S.left src.old) (λ script. GainsThen (K.held out.old) (K.held out.new)
+        (IsText options.now.workers (start 0) 0 (script_of script) result.registry result.board)
+        (traced options.now.trace result.registry result.board))) }
+    ensures readable { options.now.trace ≡ true
+        → OnOk result.answer (IfSome (S.left src.old) (λ _. CanBeRead result.registry result.board)) }
     ensures in_turn { OnOk result.answer (IfSome (S.left src.old) (λ script. InTurn (script_of script) result.registry)) }
-    ensures settled { OnOk result.answer (IfSome (S.left src.old) (λ script. IsSettled (script_of script) → GainsThen (K.held out.old) (K.held out.new) (λ text. text ≡ plain_text (script_of script)) (traced options.now.trace result.registry result.board))) }
+    ensures settled { OnOk result.answer (IfSome (S.left src.old) (λ script. IsSettled (script_of script)
+        → GainsThen (K.held out.old) (K.held out.new) (λ text. text ≡ plain_text (script_of script))
+        (traced options.now.trace result.registry result.board))) }
     ensures shut { OnOk result.answer (EndsShut result.board) }
-    ensures front { IfSome (S.left src.old) (λ script. GainsFront (K.held out.old) (K.held out.new) (IsFrontText options.now.workers (start 0) 0 (script_of script) result.registry result.board)
-        (IsText options.now.workers (start 0) 0 (script_of script) result.registry result.board) (traced options.now.trace result.registry result.board)) }
-    ensures by_lines { IfSome (S.left src.old) (λ script. GainsFront (K.held out.old) (K.held out.new) (IsTextByLines options.now.workers (script_of script) result.registry result.board)
-        (IsText options.now.workers (start 0) 0 (script_of script) result.registry result.board) (traced options.now.trace result.registry result.board)) }
-    ensures cut { IsErrOf result.answer RunError.WriteFault → IfSome (S.left src.old) (λ script. GainsFront (K.held out.old) (K.held out.new)
+    ensures front { IfSome (S.left src.old) (λ script. GainsFront (K.held out.old) (K.held out.new)
+        (IsFrontText options.now.workers (start 0) 0 (script_of script) result.registry result.board)
+        (IsText options.now.workers (start 0) 0 (script_of script) result.registry result.board)
+        (traced options.now.trace result.registry result.board)) }
+    ensures by_lines { IfSome (S.left src.old) (λ script. GainsFront (K.held out.old) (K.held out.new)
+        (IsTextByLines options.now.workers (script_of script) result.registry result.board)
+        (IsText options.now.workers (start 0) 0 (script_of script) result.registry result.board)
+        (traced options.now.trace result.registry result.board)) }
+    ensures cut { IsErrOf result.answer RunError.WriteFault
+        → IfSome (S.left src.old) (λ script. GainsFront (K.held out.old) (K.held out.new)
         (IsCutOff options.now.workers (script_of script) result.registry result.board)
-        (IsText options.now.workers (start 0) 0 (script_of script) result.registry result.board) (traced options.now.trace result.registry result.board)) }
-    ensures broken { IsErrOf result.answer RunError.NoMemory → IfSome (S.left src.old) (λ script. GainsFront (K.held out.old) (K.held out.new)
+        (IsText options.now.workers (start 0) 0 (script_of script) result.registry result.board)
+        (traced options.now.trace result.registry result.board)) }
+    ensures broken { IsErrOf result.answer RunError.NoMemory
+        → IfSome (S.left src.old) (λ script. GainsFront (K.held out.old) (K.held out.new)
         (IsBrokenOff options.now.workers (script_of script) result.registry result.board)
-        (IsText options.now.workers (start 0) 0 (script_of script) result.registry result.board) (traced options.now.trace result.registry result.board)) }
-    ensures first { RanSource options.now.workers (S.left src.old) (S.left src.new) result.registry result.board result.answer (K.held out.old) (K.held out.new) }
-    ensures closed { IsShutOnce options.now.workers result.board ⊎ ((result.answer ≡ Err RunError.NoMemory) × (result.registry ≡ []) × (result.board ≡ [])) }
+        (IsText options.now.workers (start 0) 0 (script_of script) result.registry result.board)
+        (traced options.now.trace result.registry result.board)) }
+    ensures first { RanSource options.now.workers (S.left src.old) (S.left src.new)
+        result.registry result.board result.answer (K.held out.old) (K.held out.new) }
+    ensures closed { IsShutOnce options.now.workers result.board
+        ⊎ ((result.answer ≡ Err RunError.NoMemory) × (result.registry ≡ []) × (result.board ≡ [])) }
     ensures callers { AreCallers options.now.workers result.registry result.board }
     ensures legal { LegalReg result.registry }
     ensures legal_board { LegalBoard result.board }

@@ -137,7 +137,9 @@ fn script_with_workers<S: Source, K: Sink, G: Gate + Sync, R: Threads + Wait + S
     requires lock { ArePassesOn board.now registry.now passes }
     requires first { (knows passes.board ≡ fresh_pass) × (knows passes.registry ≡ fresh_pass) }
     ensures lock { ArePassesOn board.now registry.now result.0 }
-    ensures crewed { (p q : _) × HaveNext workers passes p × AnswersSource workers (S.left src.old) (S.left src.new) p q result.1 (K.held out.old) (K.held out.new) × CrewedOnBoth workers passes q result.0 }
+    ensures crewed { (p q : _) × HaveNext workers passes p
+        × AnswersSource workers (S.left src.old) (S.left src.new) p q result.1 (K.held out.old) (K.held out.new)
+        × CrewedOnBoth workers passes q result.0 }
     ensures read_fault { IsErrOf result.1 RunError.ReadFault → Rose (S.faults src.old) (S.faults src.new) }
     ensures write_fault { IsErrOf result.1 RunError.WriteFault → Rose (K.faults out.old) (K.faults out.new) }
     ensures later { K.faults out.old ≤ K.faults out.new }
@@ -166,7 +168,8 @@ fn run_with_workers<S: Source, K: Sink, G: Gate + Sync, R: Threads + Wait + Sync
     requires few { workers ≤ 16 }
     requires lock { ArePassesOn board registry passes }
     requires first { (knows passes.board ≡ fresh_pass) × (knows passes.registry ≡ fresh_pass) }
-    ensures ran { ScriptRan workers (S.left src.old) (S.left src.new) result.registry result.board result.answer (K.held out.old) (K.held out.new) }
+    ensures ran { ScriptRan workers (S.left src.old) (S.left src.new)
+        result.registry result.board result.answer (K.held out.old) (K.held out.new) }
     ensures read_fault { IsErrOf result.answer RunError.ReadFault → Rose (S.faults src.old) (S.faults src.new) }
     ensures write_fault { IsErrOf result.answer RunError.WriteFault → Rose (K.faults out.old) (K.faults out.new) }
     ensures later { K.faults out.old ≤ K.faults out.new }
@@ -213,7 +216,8 @@ pub fn run_script<S: Source, K: Sink, G: Gate + Sync, R: Threads + Wait + Sync>(
     out: &mut K,
 ) -> RunResult
     requires few { workers ≤ 16 }
-    ensures ran { ScriptRan workers (S.left src.old) (S.left src.new) result.registry result.board result.answer (K.held out.old) (K.held out.new) }
+    ensures ran { ScriptRan workers (S.left src.old) (S.left src.new)
+        result.registry result.board result.answer (K.held out.old) (K.held out.new) }
     ensures read_fault { IsErrOf result.answer RunError.ReadFault → Rose (S.faults src.old) (S.faults src.new) }
     ensures write_fault { IsErrOf result.answer RunError.WriteFault → Rose (K.faults out.old) (K.faults out.new) }
     ensures later { K.faults out.old ≤ K.faults out.new }
