@@ -69,7 +69,8 @@ fn create_live<R: Wait>(
     requires few { workers ≤ 16 }
     ensures lock { lock_of caller.new ≡ lock_of caller.old }
     ensures created { MatchResult result
-        (λ live. CreatedLive workers wanted.now.label.now wanted.now.length chosen.now.id chosen.now.spec chosen.now.plan live (known caller.old) (known caller.new))
+        (λ live. CreatedLive workers wanted.now.label.now wanted.now.length chosen.now.id chosen.now.spec chosen.now.plan
+        live (known caller.old) (known caller.new))
         (λ _. CallsOn (known caller.old) (known caller.new) []) }
 {
     let label = Bytes::copy_of(alloc, wanted.label.as_slice())?;
@@ -101,7 +102,8 @@ impl Session {
         requires fits { is_queue_length wanted.now.length ≡ true }
         ensures { MatchResult result
             (λ _. MakesLive wanted.now.label.now wanted.now.length chosen.now.id chosen.now.spec chosen.now.plan self.old self.new)
-            (λ _. StopsMaking (shape_for self.old.workers (is_chained chosen.now.spec.driver) chosen.now.spec.wrap wanted.now.length) self.old self.new) }
+            (λ _. StopsMaking (shape_for self.old.workers (is_chained chosen.now.spec.driver) chosen.now.spec.wrap wanted.now.length)
+            self.old self.new) }
     {
         let live = create_live(
             rt,
@@ -132,8 +134,10 @@ impl Session {
         requires free { live_of self.old.script_state wanted.now.label.now ≡ None }
         requires fits { is_queue_length wanted.now.length ≡ true }
         ensures { MatchResult result
-            (λ _. AddsLive number wanted.now.label.now wanted.now.length chosen.id chosen.spec chosen.plan self.old self.new answers.old.items answers.new.items)
-            (λ _. StopsMaking (shape_for self.old.workers (is_chained chosen.spec.driver) chosen.spec.wrap wanted.now.length) self.old self.new) }
+            (λ _. AddsLive number wanted.now.label.now wanted.now.length chosen.id chosen.spec chosen.plan
+            self.old self.new answers.old.items answers.new.items)
+            (λ _. StopsMaking (shape_for self.old.workers (is_chained chosen.spec.driver) chosen.spec.wrap wanted.now.length)
+            self.old self.new) }
     {
         self.make_live(rt, board, wanted, &chosen)?;
         let driver = chosen.spec.driver;
@@ -165,8 +169,14 @@ impl Session {
         requires free { live_of self.old.script_state wanted.now.label.now ≡ None }
         requires fits { is_queue_length wanted.now.length ≡ true }
         ensures { MatchResult result
-            (λ _. Performs (binds_plan self.old.workers self.old.script_state number wanted.now.label.now wanted.now.length chosen.id chosen.spec (Some chosen.plan)) self.old self.new answers.old.items answers.new.items)
-            (λ _. StopsIn (binds_plan self.old.workers self.old.script_state number wanted.now.label.now wanted.now.length chosen.id chosen.spec (Some chosen.plan)) self.old self.new) }
+            (λ _. Performs
+            (binds_plan self.old.workers self.old.script_state number wanted.now.label.now wanted.now.length
+            chosen.id chosen.spec (Some chosen.plan))
+            self.old self.new answers.old.items answers.new.items)
+            (λ _. StopsIn
+            (binds_plan self.old.workers self.old.script_state number wanted.now.label.now wanted.now.length
+            chosen.id chosen.spec (Some chosen.plan))
+            self.old self.new) }
     {
         if !self.registry.take_ref(rt, registry, chosen.id)? {
             return answer_errno(answers, number, Errno::EAGAIN);
@@ -195,9 +205,11 @@ impl Session {
         requires fits { is_queue_length wanted.now.length ≡ true }
         ensures { MatchResult result
             (λ _. (spec : Algorithm) × (slice_get (registered (known self.old.registry).seen) id ≡ Some spec)
-            × Performs (binds self.old.workers self.old.script_state number wanted.now.label.now wanted.now.length (Entry id spec)) self.old self.new answers.old.items answers.new.items)
+            × Performs (binds self.old.workers self.old.script_state number wanted.now.label.now wanted.now.length (Entry id spec))
+            self.old self.new answers.old.items answers.new.items)
             (λ _. (spec : Algorithm) × (slice_get (registered (known self.old.registry).seen) id ≡ Some spec)
-            × StopsIn (binds self.old.workers self.old.script_state number wanted.now.label.now wanted.now.length (Entry id spec)) self.old self.new) }
+            × StopsIn (binds self.old.workers self.old.script_state number wanted.now.label.now wanted.now.length (Entry id spec))
+            self.old self.new) }
     {
         let spec = self.registry.origin(rt, registry, id)?;
         let Some(plan) = plan_with(self.alloc, &spec, wanted.length)? else {
@@ -227,8 +239,10 @@ impl Session {
         requires nested { is_nested_well name.now ≡ true }
         requires fits { is_queue_length wanted.now.length ≡ true }
         ensures { MatchResult result
-            (λ _. Performs (looks self.old.workers self.old.script_state number wanted.now.label.now (spelling name.now) wanted.now.length) self.old self.new answers.old.items answers.new.items)
-            (λ _. StopsIn (looks self.old.workers self.old.script_state number wanted.now.label.now (spelling name.now) wanted.now.length) self.old self.new) }
+            (λ _. Performs (looks self.old.workers self.old.script_state number wanted.now.label.now (spelling name.now) wanted.now.length)
+            self.old self.new answers.old.items answers.new.items)
+            (λ _. StopsIn (looks self.old.workers self.old.script_state number wanted.now.label.now (spelling name.now) wanted.now.length)
+            self.old self.new) }
     {
         match self.registry.resolve(rt, self.alloc, registry, name)? {
             Ok(id) => self.bind(rt, board, registry, number, wanted, id, answers),
@@ -253,8 +267,10 @@ impl Session {
         requires posted { PipelinesMatch self.old.script_state (known self.old.board) }
         requires few { self.old.workers ≤ 16 }
         ensures { MatchResult result
-            (λ _. Performs (alloc self.old.workers self.old.script_state number wanted.now.label.now name.now wanted.now.length) self.old self.new answers.old.items answers.new.items)
-            (λ _. StopsIn (alloc self.old.workers self.old.script_state number wanted.now.label.now name.now wanted.now.length) self.old self.new) }
+            (λ _. Performs (alloc self.old.workers self.old.script_state number wanted.now.label.now name.now wanted.now.length)
+            self.old self.new answers.old.items answers.new.items)
+            (λ _. StopsIn (alloc self.old.workers self.old.script_state number wanted.now.label.now name.now wanted.now.length)
+            self.old self.new) }
     {
         if self.has_label(wanted.label.as_slice()) {
             return answer_errno(answers, number, Errno::EEXIST);

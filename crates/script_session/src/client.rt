@@ -34,7 +34,12 @@ impl Session {
         registry: RegPass,
         board: BoardPass<Job>,
     ) -> Session
-        ensures { result ≡ record { workers = workers; script_state = start_beside client (arc_value shared); registry = Some registry; board = Some board } }
+        ensures { result ≡ record {
+          workers = workers;
+          script_state = start_beside client (arc_value shared);
+          registry = Some registry;
+          board = Some board;
+        } }
     {
         Session {
             alloc,

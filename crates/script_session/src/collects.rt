@@ -92,7 +92,8 @@ fn collect_live<R: Wait, G: Gate>(
     ensures named { live.new.label ≡ live.old.label }
     ensures lock { lock_of caller.new ≡ lock_of caller.old }
     ensures held { MatchResult result
-        (λ _. SaysFor (λ script_state. collects waits script_state line live.old.label) live.old live.new (known caller.old) (known caller.new) reply.old.text reply.new.text)
+        (λ _. SaysFor (λ script_state. collects waits script_state line live.old.label)
+        live.old live.new (known caller.old) (known caller.new) reply.old.text reply.new.text)
         (λ _. BreaksFor (known caller.old) (known caller.new) reply.old.text reply.new.text) }
 {
     only_collects_hand_out::<Ask>();
@@ -186,7 +187,8 @@ fn drain_last_said<R: Wait, G: Gate>(
     requires bytes { sum_by ask_size (accepted_by (known caller.old).number (known caller.old).seen) ≡ bytes }
     ensures lock { lock_of caller.new ≡ lock_of caller.old }
     ensures moved { MatchResult result
-        (λ _. SaysMove (drains_at_end live.old.label live.old.pipe) live.old live.new (known caller.old) (known caller.new) reply.old.text reply.new.text)
+        (λ _. SaysMove (drains_at_end live.old.label live.old.pipe)
+        live.old live.new (known caller.old) (known caller.new) reply.old.text reply.new.text)
         (λ _. StopsMoving (drains_at_end live.old.label live.old.pipe) (known caller.old) (known caller.new)) }
     ensures told { SaysTold (known caller.old) (known caller.new) reply.old.text reply.new.text }
     ensures paid { OnOk result (AllDelivered live.new.pipe) }

@@ -82,7 +82,8 @@ fn drain_last<R: Wait, G: Gate>(
     requires pipe { HasPipe (known caller.old) live.old.pipe }
     ensures lock { lock_of caller.new ≡ lock_of caller.old }
     ensures moved { MatchResult result
-        (λ _. Moves (drains_at_end live.old.label live.old.pipe) live.old live.new (known caller.old) (known caller.new) answers.old.items answers.new.items)
+        (λ _. Moves (drains_at_end live.old.label live.old.pipe)
+        live.old live.new (known caller.old) (known caller.new) answers.old.items answers.new.items)
         (λ _. StopsMoving (drains_at_end live.old.label live.old.pipe) (known caller.old) (known caller.new)) }
     ensures paid { OnOk result (AllDelivered live.new.pipe) }
 {

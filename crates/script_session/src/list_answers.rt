@@ -43,7 +43,8 @@ pub fn list_rows(
     rows: &[ListRow],
     answers: &mut Vec<Answer>,
 ) -> Result<(), Stop>
-    ensures { OnOk result (answers.new.items ≡ answers.old.items ++ (map (row_said line) rows.now ++ Answer.Listed line (length rows.now) ∷ [])) }
+    ensures { OnOk result (answers.new.items
+        ≡ answers.old.items ++ (map (row_said line) rows.now ++ Answer.Listed line (length rows.now) ∷ [])) }
 {
     say_rows(alloc, line, rows, answers)?;
     let count = rows.len() as u64;

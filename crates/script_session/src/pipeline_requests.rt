@@ -81,9 +81,13 @@ pub fn take_job<R: Wait>(
     ensures named { live.new.label ≡ live.old.label }
     ensures lock { lock_of caller.new ≡ lock_of caller.old }
     ensures held { MatchResult result
-        (λ accepted. PerformsFor (λ script_state. requests_in script_state of.line live.old (asked_by (arc_value job.ask)) backlog live.old.pipe) live.old live.new (known caller.old) (known caller.new) (asks_if accepted (arc_value job.ask)) answers.old.items answers.new.items)
-        (λ _. StopsFor (λ script_state. requests_in script_state of.line live.old (asked_by (arc_value job.ask)) backlog live.old.pipe) live.old (known caller.old) (known caller.new)) }
-    ensures allowed { IfOk result (λ accepted. IsTrue accepted → IsAllowed ask_size (known caller.old).seen (known caller.old).number (arc_value job.ask)) }
+        (λ accepted. PerformsFor
+        (λ script_state. requests_in script_state of.line live.old (asked_by (arc_value job.ask)) backlog live.old.pipe)
+        live.old live.new (known caller.old) (known caller.new) (asks_if accepted (arc_value job.ask)) answers.old.items answers.new.items)
+        (λ _. StopsFor (λ script_state. requests_in script_state of.line live.old (asked_by (arc_value job.ask)) backlog live.old.pipe)
+        live.old (known caller.old) (known caller.new)) }
+    ensures allowed { IfOk result (λ accepted. IsTrue accepted
+        → IsAllowed ask_size (known caller.old).seen (known caller.old).number (arc_value job.ask)) }
 {
     let Some(pipe) = live.pipe() else {
         say(answers, value_answer(of.line, job.run()))?;

@@ -43,7 +43,8 @@ impl Session {
         requires short { IsShortLine line }
         requires no_collect { hands_out line ≡ false }
         ensures done { MatchResult result
-            (λ _. PerformsBy (width_of line) (line_dialogue self.old.workers self.old.script_state number line) self.old self.new answers.old.items answers.new.items)
+            (λ _. PerformsBy (width_of line) (line_dialogue self.old.workers self.old.script_state number line)
+            self.old self.new answers.old.items answers.new.items)
             (λ _. StopsIn (line_dialogue self.old.workers self.old.script_state number line) self.old self.new) }
         // It is ready for the next line.
         ensures ready { OnOk result (IsReady registry.now board.now self.new) }

@@ -53,7 +53,8 @@ fn look_for<R: Wait>(
     requires at { CallsRegistry registry.now caller.old }
     requires outsider { IsFalse (is_worker (known caller.old).number) }
     ensures { MatchResult result
-        (λ look. IsRead text.now look × Goes caller.old caller.new (entry_of (known caller.old).number look) × MaySettle (known caller.new) look)
+        (λ look. IsRead text.now look × Goes caller.old caller.new (entry_of (known caller.old).number look)
+        × MaySettle (known caller.new) look)
         (λ _. Goes caller.old caller.new []) }
 {
     match read_name(alloc, text) {
@@ -147,7 +148,8 @@ fn settle_all<R: Wait>(
     requires at { CallsRegistry registry.now caller.old }
     requires may { All (λ (search : Searched). MaySettle (known caller.old) search.look) searches.now }
     ensures { MatchResult result
-        (λ _. (said : List Said) × (answers.new.items ≡ answers.old.items ++ said) × SettlesThen caller.old caller.new line searches.now said)
+        (λ _. (said : List Said) × (answers.new.items ≡ answers.old.items ++ said)
+        × SettlesThen caller.old caller.new line searches.now said)
         (λ _. Builds caller.old caller.new) }
 {
     registry_calls_go_on();
@@ -173,7 +175,8 @@ impl Session {
         requires stands { ReferencesMatch self.old.script_state.lives (known self.old.registry) }
         requires posted { PipelinesMatch self.old.script_state (known self.old.board) }
         ensures { MatchResult result
-            (λ _. PerformsBy (length names.now) (probe self.old.script_state number names.now) self.old self.new answers.old.items answers.new.items)
+            (λ _. PerformsBy (length names.now) (probe self.old.script_state number names.now)
+            self.old self.new answers.old.items answers.new.items)
             (λ _. StopsIn (probe self.old.script_state number names.now) self.old self.new) }
     {
         calls_at_once();

@@ -34,7 +34,8 @@ impl Session {
         requires stands { ReferencesMatch self.old.script_state.lives (known self.old.registry) }
         requires posted { PipelinesMatch self.old.script_state (known self.old.board) }
         ensures { MatchResult result
-            (λ _. Performs (register self.old.script_state number driver.now priority) self.old self.new answers.old.items answers.new.items)
+            (λ _. Performs (register self.old.script_state number driver.now priority)
+            self.old self.new answers.old.items answers.new.items)
             (λ _. StopsIn (register self.old.script_state number driver.now priority) self.old self.new) }
     {
         let Some(spec) = driver_of(self.alloc, driver.as_slice(), priority)? else {

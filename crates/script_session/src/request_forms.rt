@@ -108,7 +108,8 @@ impl Session {
         requires aad { length asked.aad < 2 ^ 32 }
         requires text { length asked.text.text < 2 ^ 32 }
         ensures { MatchResult result
-            (λ _. Performs (request self.old.script_state number label.now asked backlog) self.old self.new answers.old.items answers.new.items)
+            (λ _. Performs (request self.old.script_state number label.now asked backlog)
+            self.old self.new answers.old.items answers.new.items)
             (λ _. StopsIn (request self.old.script_state number label.now asked backlog) self.old self.new) }
     {
         let Some(place) = self.lives.place_of(label.as_slice()) else {

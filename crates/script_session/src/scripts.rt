@@ -56,7 +56,13 @@ impl Model for Session {
 
     ghost view = { λ s. record {
       workers = s.workers;
-      script_state = record { client = s.client; shared = shared_in s.shared; lives = lives_of s.lives; requests = s.requests; bytes = s.bytes };
+      script_state = record {
+        client = s.client;
+        shared = shared_in s.shared;
+        lives = lives_of s.lives;
+        requests = s.requests;
+        bytes = s.bytes;
+      };
       registry = s.registry;
       board = s.board;
     } };
@@ -116,7 +122,8 @@ impl Session {
         requires short { IsShortCommand command }
         requires no_collect { hands_out (Cmd command) ≡ false }
         ensures { MatchResult result
-            (λ _. PerformsBy (command_width command) (command_dialogue self.old.workers self.old.script_state number command) self.old self.new answers.old.items answers.new.items)
+            (λ _. PerformsBy (command_width command) (command_dialogue self.old.workers self.old.script_state number command)
+            self.old self.new answers.old.items answers.new.items)
             (λ _. StopsIn (command_dialogue self.old.workers self.old.script_state number command) self.old self.new) }
     {
         match command {
@@ -210,7 +217,8 @@ impl Session {
         requires short { IsShortLine line }
         requires no_collect { hands_out line ≡ false }
         ensures done { MatchResult result
-            (λ _. SaysBy (width_of line) (line_dialogue self.old.workers self.old.script_state number line) self.old self.new reply.old.text reply.new.text)
+            (λ _. SaysBy (width_of line) (line_dialogue self.old.workers self.old.script_state number line)
+            self.old self.new reply.old.text reply.new.text)
             (λ _. StopsIn (line_dialogue self.old.workers self.old.script_state number line) self.old self.new) }
         ensures unwritten { OnErr result (reply.new.text ≡ reply.old.text) }
     {
@@ -241,7 +249,8 @@ impl Session {
         requires ready { IsReady registry.now board.now self.old }
         requires short { IsShortLine line }
         ensures done { MatchResult result
-            (λ _. Replies (width_of line) (line_dialogue self.old.workers self.old.script_state number line) self.old self.new reply.old.text reply.new.text)
+            (λ _. Replies (width_of line) (line_dialogue self.old.workers self.old.script_state number line)
+            self.old self.new reply.old.text reply.new.text)
             (λ _. StopsIn (line_dialogue self.old.workers self.old.script_state number line) self.old self.new) }
         // It is ready for the next line.
         ensures ready { OnOk result (IsReady registry.now board.now self.new) }

@@ -49,7 +49,8 @@ fn key_live(
 ) -> Result<(), Stop>
     ensures named { live.new.label ≡ live.old.label }
     ensures held { OnOk result ((k : Known (BoardEntry Ask)) → HasPipe k live.old.pipe → LegalBoard k.seen
-        → PerformsFor (λ script_state. set_key script_state line live.old.label key.now) live.old live.new k k [] answers.old.items answers.new.items) }
+        → PerformsFor (λ script_state. set_key script_state line live.old.label key.now)
+        live.old live.new k k [] answers.old.items answers.new.items) }
 {
     match live.set_key(alloc, key) {
         Ok(()) => say(answers, Answer::Ok { line }),
@@ -67,7 +68,8 @@ fn size_live(
 ) -> Result<(), Stop>
     ensures named { live.new.label ≡ live.old.label }
     ensures held { OnOk result ((k : Known (BoardEntry Ask)) → HasPipe k live.old.pipe → LegalBoard k.seen
-        → PerformsFor (λ script_state. set_tag_size script_state line live.old.label size) live.old live.new k k [] answers.old.items answers.new.items) }
+        → PerformsFor (λ script_state. set_tag_size script_state line live.old.label size)
+        live.old live.new k k [] answers.old.items answers.new.items) }
 {
     match live.set_tag_size(size) {
         Ok(()) => say(answers, Answer::Ok { line }),
@@ -102,8 +104,10 @@ fn mask_live<R: Wait>(
     ensures named { live.new.label ≡ live.old.label }
     ensures lock { lock_of caller.new ≡ lock_of caller.old }
     ensures held { MatchResult result
-        (λ _. PerformsFor (λ script_state. mask workers script_state line live.old.label bits) live.old live.new (known caller.old) (known caller.new) [] answers.old.items answers.new.items)
-        (λ _. StopsFor (λ script_state. mask workers script_state line live.old.label bits) live.old (known caller.old) (known caller.new)) }
+        (λ _. PerformsFor (λ script_state. mask workers script_state line live.old.label bits)
+        live.old live.new (known caller.old) (known caller.new) [] answers.old.items answers.new.items)
+        (λ _. StopsFor (λ script_state. mask workers script_state line live.old.label bits)
+        live.old (known caller.old) (known caller.new)) }
 {
     let Some(pipe) = live.pipe() else {
         return answer_errno(answers, line, Errno::EINVAL);
@@ -131,7 +135,8 @@ fn hold_pipe<R: Wait>(
     requires queue { IsQueue pipe.now.bound }
     ensures lock { lock_of caller.new ≡ lock_of caller.old }
     ensures changed { MatchResult result
-        (λ _. Changed (known caller.old) (known caller.new) pipe.now (record (pipe.now) { held = held }) (hold_call held pipe.now.number ∷ []) [])
+        (λ _. Changed (known caller.old) (known caller.new) pipe.now (record (pipe.now) { held = held })
+        (hold_call held pipe.now.number ∷ []) [])
         (λ _. Unchanged (known caller.old) (known caller.new)) }
 {
     if held {
@@ -157,8 +162,10 @@ fn hold_live<R: Wait>(
     ensures named { live.new.label ≡ live.old.label }
     ensures lock { lock_of caller.new ≡ lock_of caller.old }
     ensures held { MatchResult result
-        (λ _. PerformsFor (λ script_state. holds_or_goes script_state line live.old.label held) live.old live.new (known caller.old) (known caller.new) [] answers.old.items answers.new.items)
-        (λ _. StopsFor (λ script_state. holds_or_goes script_state line live.old.label held) live.old (known caller.old) (known caller.new)) }
+        (λ _. PerformsFor (λ script_state. holds_or_goes script_state line live.old.label held)
+        live.old live.new (known caller.old) (known caller.new) [] answers.old.items answers.new.items)
+        (λ _. StopsFor (λ script_state. holds_or_goes script_state line live.old.label held)
+        live.old (known caller.old) (known caller.new)) }
 {
     let Some(pipe) = live.pipe() else {
         return answer_errno(answers, line, Errno::EINVAL);
@@ -192,8 +199,10 @@ fn set_live<R: Wait>(
     ensures named { live.new.label ≡ live.old.label }
     ensures lock { lock_of caller.new ≡ lock_of caller.old }
     ensures held { MatchResult result
-        (λ _. PerformsFor (λ script_state. sets workers script_state line live.old.label setting) live.old live.new (known caller.old) (known caller.new) [] answers.old.items answers.new.items)
-        (λ _. StopsFor (λ script_state. sets workers script_state line live.old.label setting) live.old (known caller.old) (known caller.new)) }
+        (λ _. PerformsFor (λ script_state. sets workers script_state line live.old.label setting)
+        live.old live.new (known caller.old) (known caller.new) [] answers.old.items answers.new.items)
+        (λ _. StopsFor (λ script_state. sets workers script_state line live.old.label setting)
+        live.old (known caller.old) (known caller.new)) }
 {
     match setting {
         Setting::Key(key) => key_live(alloc, line, live, key.as_slice(), answers),
@@ -220,7 +229,8 @@ impl Session {
         requires few { self.old.workers ≤ 16 }
         requires wide { PadsHaveAListPerWorker self.old }
         ensures { MatchResult result
-            (λ _. Performs (sets self.old.workers self.old.script_state number label.now setting) self.old self.new answers.old.items answers.new.items)
+            (λ _. Performs (sets self.old.workers self.old.script_state number label.now setting)
+            self.old self.new answers.old.items answers.new.items)
             (λ _. StopsIn (sets self.old.workers self.old.script_state number label.now setting) self.old self.new) }
     {
         let Some(place) = self.lives.place_of(label.as_slice()) else {

@@ -107,7 +107,8 @@ fn drain_shared<R: Wait, G: Gate>(
     requires pipe { HasFreed (known caller.old) live.now.pipe }
     ensures lock { lock_of caller.new ≡ lock_of caller.old }
     ensures moved { MatchResult result
-        (λ _. MovesLent HasFreed HasDelivered (drains_at_end live.now.label live.now.pipe) live.now.pipe (known caller.old) (known caller.new) answers.old.items answers.new.items)
+        (λ _. MovesLent HasFreed HasDelivered (drains_at_end live.now.label live.now.pipe)
+        live.now.pipe (known caller.old) (known caller.new) answers.old.items answers.new.items)
         (λ _. SeesBeside (known caller.old) (known caller.new)) }
 {
     let Some(shared) = live.pipe() else {
@@ -137,7 +138,8 @@ fn drain_shared_all<R: Wait, G: Gate>(
     requires freed { AreToMove HasFreed lives.now (known caller.old) }
     ensures lock { lock_of caller.new ≡ lock_of caller.old }
     ensures moved { MatchResult result
-        (λ _. MovesAllLent HasDelivered (drain_all lives.now) lives.now (known caller.old) (known caller.new) answers.old.items answers.new.items)
+        (λ _. MovesAllLent HasDelivered (drain_all lives.now)
+        lives.now (known caller.old) (known caller.new) answers.old.items answers.new.items)
         (λ _. SeesBeside (known caller.old) (known caller.new)) }
 {
     for live in lives {

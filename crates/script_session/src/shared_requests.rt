@@ -75,9 +75,12 @@ fn give_job<R: Wait>(
     requires pipe { HasShared (known caller.old) live.now.pipe }
     ensures lock { lock_of caller.new ≡ lock_of caller.old }
     ensures held { MatchResult result
-        (λ accepted. GivesFor (λ script_state. requests_in script_state line live.now (asked_by (arc_value job.ask)) backlog live.now.pipe) live.now (known caller.old) (known caller.new) (asks_if accepted (arc_value job.ask)) answers.old.items answers.new.items)
-        (λ _. StopsGiving (λ script_state. requests_in script_state line live.now (asked_by (arc_value job.ask)) backlog live.now.pipe) live.now (known caller.old) (known caller.new)) }
-    ensures allowed { IfOk result (λ accepted. IsTrue accepted → IsAllowed ask_size (known caller.old).seen (known caller.old).number (arc_value job.ask)) }
+        (λ accepted. GivesFor (λ script_state. requests_in script_state line live.now (asked_by (arc_value job.ask)) backlog live.now.pipe)
+        live.now (known caller.old) (known caller.new) (asks_if accepted (arc_value job.ask)) answers.old.items answers.new.items)
+        (λ _. StopsGiving (λ script_state. requests_in script_state line live.now (asked_by (arc_value job.ask)) backlog live.now.pipe)
+        live.now (known caller.old) (known caller.new)) }
+    ensures allowed { IfOk result (λ accepted. IsTrue accepted
+        → IsAllowed ask_size (known caller.old).seen (known caller.old).number (arc_value job.ask)) }
 {
     let Some(pipe) = live.pipe() else {
         say(answers, value_answer(line, job.run()))?;
@@ -130,7 +133,8 @@ impl Session {
         requires aad { length asked.aad < 2 ^ 32 }
         requires text { length asked.text.text < 2 ^ 32 }
         ensures { MatchResult result
-            (λ _. Performs (request self.old.script_state number label.now asked backlog) self.old self.new answers.old.items answers.new.items)
+            (λ _. Performs (request self.old.script_state number label.now asked backlog)
+            self.old self.new answers.old.items answers.new.items)
             (λ _. StopsIn (request self.old.script_state number label.now asked backlog) self.old self.new) }
     {
         let Some(live) = find_shared(&self.shared, label.as_slice()) else {
