@@ -30,7 +30,9 @@ impl Model for AesGcm {
 impl AesGcm {
     /// AES-GCM under `key`. `KeyLength` exactly where the key has neither 16, 24 nor 32 bytes.
     pub fn new(key: &[u8]) -> Result<AesGcm, AesGcmError>
-        ensures { MatchResult result (λ aead. IsKeyLength (length key.now) × (aead.bytes ≡ key.now)) (λ e. (e ≡ AesGcmError.KeyLength) × ¬ (IsKeyLength (length key.now))) }
+        ensures { MatchResult result
+            (λ aead. IsKeyLength (length key.now) × (aead.bytes ≡ key.now))
+            (λ e. (e ≡ AesGcmError.KeyLength) × ¬ (IsKeyLength (length key.now))) }
     {
         match LaneAes::new(key) {
             Ok(cipher) => Ok(AesGcm {

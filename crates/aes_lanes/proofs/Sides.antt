@@ -34,10 +34,6 @@ map_of_each_half h f x = map-append h (f (take 16 x)) (f (drop 16 x))
 
 -- ---- how long a block stays
 
-shift_long : (s : List ℕ) → length (shift_rows s) ≡ 16
-unfolding shift_rows
-shift_long s = refl
-
 shift_back_long : (s : List ℕ) → length (inverse_shift_rows s) ≡ 16
 unfolding inverse_shift_rows
 shift_back_long s = refl

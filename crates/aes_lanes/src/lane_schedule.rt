@@ -48,7 +48,8 @@ impl LaneSchedule {
     /// Two sealed blocks before their last round.
     #[inline(always)]
     fn begun_back(&self, x: u8x32) -> u8x32
-        ensures { result ≡ each_half (λ s. inverse_sub_bytes (inverse_shift_rows (add_round_key (schedule_of self.now.keys) self.now.rounds s))) x }
+        ensures { result
+            ≡ each_half (λ s. inverse_sub_bytes (inverse_shift_rows (add_round_key (schedule_of self.now.keys) self.now.rounds s))) x }
     {
         inverse_substituted(shifted_back(sum(x, self.keys[self.rounds].twice)))
     }

@@ -243,7 +243,9 @@ pub(crate) fn in_both(x: u8x16) -> u8x32
 /// Adds a round key to terms of all blocks.
 #[inline(always)]
 pub(crate) fn key_added(s: Rows, key: RowKey) -> Rows
-    ensures { state_blocks result ≡ eight_blocks (with_key s.first key.first ∷ with_key s.second key.second ∷ with_key s.third key.third ∷ with_key s.fourth key.fourth ∷ []) }
+    ensures { state_blocks result
+        ≡ eight_blocks (with_key s.first key.first ∷ with_key s.second key.second
+        ∷ with_key s.third key.third ∷ with_key s.fourth key.fourth ∷ []) }
 {
     Rows {
         first: state_added(s.first, in_both(key.first)),

@@ -29,7 +29,8 @@ impl LaneSchedule {
     #[inline(always)]
     fn sealed_rows(&self, s: Rows, round: usize) -> Rows
         requires { round ≤ self.now.rounds }
-        ensures { tower_blocks result ≡ map (λ b. add_round_key (schedule_of self.now.keys) round (mix_columns (shift_rows (sub_bytes b)))) (tower_blocks s) }
+        ensures { tower_blocks result
+            ≡ map (λ b. add_round_key (schedule_of self.now.keys) round (mix_columns (shift_rows (sub_bytes b)))) (tower_blocks s) }
     {
         let t = shifted_rows(s);
         let u = made_and_mixed(t.first, t.second, t.third, t.fourth);

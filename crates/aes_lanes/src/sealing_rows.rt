@@ -47,7 +47,9 @@ pub(crate) fn made_and_mixed(a: u8x32, b: u8x32, c: u8x32, d: u8x32) -> Rows
 /// Adds a round key to all blocks.
 #[inline(always)]
 pub(crate) fn sealing_key_added(s: Rows, key: RowKey) -> Rows
-    ensures { tower_blocks result ≡ eight_blocks (with_sealing_key s.first key.first ∷ with_sealing_key s.second key.second ∷ with_sealing_key s.third key.third ∷ with_sealing_key s.fourth key.fourth ∷ []) }
+    ensures { tower_blocks result
+        ≡ eight_blocks (with_sealing_key s.first key.first ∷ with_sealing_key s.second key.second
+        ∷ with_sealing_key s.third key.third ∷ with_sealing_key s.fourth key.fourth ∷ []) }
 {
     Rows {
         first: added(s.first, in_both(key.first)),

@@ -28,7 +28,9 @@ impl LaneSchedule {
     #[inline(always)]
     fn unsealed_rows(&self, s: Rows, round: usize) -> Rows
         requires { round ≤ self.now.rounds }
-        ensures { state_blocks result ≡ map (λ b. inverse_mix_columns (add_round_key (schedule_of self.now.keys) round (inverse_sub_bytes (inverse_shift_rows b)))) (state_blocks s) }
+        ensures { state_blocks result
+            ≡ map (λ b. inverse_mix_columns (add_round_key (schedule_of self.now.keys) round (inverse_sub_bytes (inverse_shift_rows b))))
+            (state_blocks s) }
     {
         let t = all_undone(shifted_back(s));
         let u = mixed_back(t.first, t.second, t.third, t.fourth);

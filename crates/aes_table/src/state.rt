@@ -89,7 +89,8 @@ pub(crate) fn sealed_last(s: Columns, words: &[u32; 60], round: usize) -> Column
 #[inline(always)]
 pub(crate) fn unsealed_round(s: Columns, back_words: &[u32; 60], round: usize) -> Columns
     requires { round < 15 }
-    ensures { state_of result ≡ add_round_key (map bytes_of back_words.now) round (inverse_mix_columns (inverse_sub_bytes (inverse_shift_rows (state_of s)))) }
+    ensures { state_of result
+        ≡ add_round_key (map bytes_of back_words.now) round (inverse_mix_columns (inverse_sub_bytes (inverse_shift_rows (state_of s)))) }
 {
     let [a, b, c, d, e, f, g, h, i, j, k, l, m, n, o, p] = block_of(s);
     Columns {

@@ -29,7 +29,9 @@ impl Model for TableAes {
 impl TableAes {
     /// AES under a key of 16, 24 or 32 bytes. `EINVAL` exactly where the key has another length.
     pub fn new(key: &[u8]) -> Result<TableAes, Errno>
-        ensures { MatchResult result (λ a. IsKeyLength (length key.now) × (a.bytes ≡ key.now)) (λ e. (e ≡ Errno.EINVAL) × ¬ (IsKeyLength (length key.now))) }
+        ensures { MatchResult result
+            (λ a. IsKeyLength (length key.now) × (a.bytes ≡ key.now))
+            (λ e. (e ≡ Errno.EINVAL) × ¬ (IsKeyLength (length key.now))) }
     {
         if !matches!(key.len(), 16 | 24 | 32) {
             return Err(Errno::EINVAL);

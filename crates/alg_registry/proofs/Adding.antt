@@ -4,11 +4,12 @@ use Rattle.std.specs.List.{list_any, list_all}
 use Rattle.std.proofs.lemmas.List.{append-nil}
 use Rattle.std.proofs.lemmas.List.Sums.{sum_by-append}
 use Rattle.std.proofs.lemmas.Bool.Decides.{nat_tests}
+use Rattle.std.proofs.lemmas.Bool.{and_parts}
 use Rattle.alg_registry.specs.declared.spec.Spec.{Spec}
 use Rattle.alg_registry.specs.declared.row.Row.{Row}
 use Rattle.alg_registry.specs.Calls.{new_row, listed_row_of}
 use Rattle.alg_registry.specs.Rows.{is_held, stands_on, holders, listed_at, stays_listed, standing}
-use Rattle.alg_registry.specs.Counting.{referred}
+use Rattle.alg_registry.specs.MarkCounts.{referred}
 use Rattle.alg_registry.specs.Held.{held_from, listed_from}
 use Rattle.alg_registry.proofs.Standing.{bare, map-push}
 use Rattle.alg_registry.proofs.Restanding.{Stands, mark, same_stays, same_push, same_length, stands-from, standing-stands, standing-bare, weight, holders-cons, held_listed}
@@ -18,14 +19,10 @@ abbrev pub AreChildrenListed : List ℕ → ℕ → List Row → Type 0
 AreChildrenListed below n [] = Unit {0}
 AreChildrenListed below n (row ∷ rows) = (list_any (λ child. eqb child n) below ≡ true → row.listed ≡ true) × AreChildrenListed below (n + 1) rows
 
-both : (a b : Bool) → (a && b) ≡ true → (a ≡ true) × (b ≡ true)
-both true b e = (refl, e)
-both false b e = absurd cc
-
 all_has : (q : ℕ → Bool) (n : ℕ) (ids : List ℕ) → list_all q ids ≡ true → list_any (λ child. eqb child n) ids ≡ true → q n ≡ true
 all_has q n [] all any = absurd cc
 all_has q n (x ∷ ids) all any =
-    let parts = both (q x) (list_all q ids) all in
+    let parts = and_parts (q x) (list_all q ids) all in
     here (eqb x n) refl any (all_has q n ids parts.1) parts.0
   where
     here : (b : Bool) → eqb x n ≡ b → (b || list_any (λ child. eqb child n) ids) ≡ true → (list_any (λ child. eqb child n) ids ≡ true → q n ≡ true) → q x ≡ true → q n ≡ true

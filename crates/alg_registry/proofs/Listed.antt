@@ -14,11 +14,12 @@ use Rattle.alg_registry.specs.Rows.{rows_of, registered, registered_by, unlists,
 use Rattle.alg_registry.specs.Legal.{LegalReg, IsRight}
 use Rattle.alg_registry.specs.Lifetimes.{below_of, IsChild, Directly, Deeper, IsListed, ListedIs}
 use Rattle.std.proofs.lemmas.List.{append-nil}
+use Rattle.std.proofs.lemmas.Bool.{or_right, or_left}
 use Rattle.alg_registry.proofs.Steps.{registered-push}
 use Rattle.alg_registry.proofs.Stack.{legal_along}
 use Rattle.alg_registry.proofs.Standing.{bare-rows_of}
 use Rattle.alg_registry.proofs.Fresh.{length-rows_of, is_listed-within}
-use Rattle.alg_registry.proofs.LifetimeLaws.{listed-not_unlisted, listed-below, get_noted, or_right, or_left, equal_self, same_number}
+use Rattle.alg_registry.proofs.LifetimeLaws.{listed-not_unlisted, listed-below, get_noted, equal_self, same_number}
 use Rattle.alg_registry.proofs.Restanding.{stands-at}
 use Rattle.alg_registry.proofs.Holding.{stands-rows_of, get_there}
 use Rattle.alg_registry.proofs.Sight.{built-listed}

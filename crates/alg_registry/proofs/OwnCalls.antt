@@ -1,7 +1,7 @@
 -- What a caller builds, and its looks for that, hang on its own entries alone.
 use Rattle.std.proofs.Common.{◌≡◌, ◌≢◌, ℕ, zero, suc, ◌<◌, ◌⊎◌, inl, inr, Bool, true, false, not, ◌||◌, ◌&&◌, eqb, eq-eqb, ne_eqb, if◌then◌else◌, List, [], ◌∷◌, ◌++◌, length, refl, ap, sym, ◌∙◌, subst, arith, Option, Some, None, append_assoc}
 use Rattle.std.specs.Prelude.{slice_get, filter, is_none, count_by}
-use Rattle.std.proofs.lemmas.Bool.{eqb-true}
+use Rattle.std.proofs.lemmas.Bool.{eqb-true, and_right, and_left}
 use Rattle.std.proofs.lemmas.List.Sums.{length-filter}
 use Rattle.std.specs.List.{fold, list_any, cons_option}
 use Rattle.std.specs.Option.{option_or, option_and_then, option_map_or}
@@ -64,16 +64,8 @@ filter_own p c none (e ∷ h) = by_caller (eqb (caller_of e) c) refl (p e) refl 
 count_own : (p : RegEntry → Bool) (c : ℕ) → ((e : RegEntry) → eqb (caller_of e) c ≡ false → p e ≡ false) → (h : List RegEntry) → count_by p h ≡ count_by p (calls_of c h)
 count_own p c none h = sym (length-filter p h) ∙ (ap length (filter_own p c none h) ∙ length-filter p (calls_of c h))
 
-both_false : (a b : Bool) → b ≡ false → (a && b) ≡ false
-both_false true b e = e
-both_false false b e = refl
-
-first_false : (a b : Bool) → a ≡ false → (a && b) ≡ false
-first_false true b e = absurd cc
-first_false false b e = refl
-
 gets_other : (c id : ℕ) (e : RegEntry) → eqb (caller_of e) c ≡ false → gets_as c id e ≡ false
-gets_other c id (Get by taken ok) other = first_false (ok && eqb by c) (eqb taken id) (both_false ok (eqb by c) other)
+gets_other c id (Get by taken ok) other = and_left (ok && eqb by c) (eqb taken id) (and_right ok (eqb by c) other)
 gets_other c id (Claim by larval) other = refl
 gets_other c id (End by larval answer) other = refl
 gets_other c id (Enlist by spec answer) other = refl
@@ -85,7 +77,7 @@ gets_other c id (Refs by driver) other = refl
 gets_other c id (entry.List by) other = refl
 
 puts_other : (c id : ℕ) (e : RegEntry) → eqb (caller_of e) c ≡ false → puts_as c id e ≡ false
-puts_other c id (Put by given) other = first_false (eqb by c) (eqb given id) other
+puts_other c id (Put by given) other = and_left (eqb by c) (eqb given id) other
 puts_other c id (Get by taken ok) other = refl
 puts_other c id (Claim by larval) other = refl
 puts_other c id (End by larval answer) other = refl

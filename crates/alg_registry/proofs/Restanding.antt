@@ -4,6 +4,7 @@ use Rattle.std.specs.List.{list_any, list_all}
 use Rattle.std.proofs.lemmas.Bool.Decides.{nat_tests}
 use Rattle.std.proofs.lemmas.List.{append-nil, length-map, map_push, map-set, set-append_left, get_or-set_same, get_or-set_other}
 use Rattle.std.proofs.lemmas.List.Sums.{sum_by-append}
+use Rattle.std.proofs.lemmas.Bool.{and_parts, or_parts, and_right}
 use borrow.Author.Tests.{lt-ltb}
 use Rattle.alg_registry.specs.Alone.{stands_on_nothing, unlists_alone, puts_alone}
 use Rattle.alg_registry.specs.Calls.{unlisted_row, taken_row, put_row_of}
@@ -178,10 +179,6 @@ gone : (n : ℕ) (older older' : List Row) → n < length older → map mark old
 gone n older older' lt e =
     listed_at-mark older' n ∙ (ap (λ (bs : List Bool). get_or bs n false) e ∙ get_or-set_same (map mark older) n false false (omega (arith, lt, length-map older mark)))
 
-or_none : (a b : Bool) → (a || b) ≡ false → (a ≡ false) × (b ≡ false)
-or_none true b e = absurd cc
-or_none false b e = (refl, e)
-
 unequal : (a b : ℕ) → eqb a b ≡ false → a ≢ b
 unequal a b e same = grind (arith, nat_tests)
 
@@ -191,14 +188,10 @@ equal a b e = grind (arith, nat_tests)
 all_but : (p q : ℕ → Bool) (n : ℕ) → ((id : ℕ) → id ≢ n → q id ≡ p id) → (ids : List ℕ) → list_any (λ child. eqb child n) ids ≡ false → list_all q ids ≡ list_all p ids
 all_but p q n same [] none = refl
 all_but p q n same (x ∷ ids) none =
-    let parts = or_none (eqb x n) (list_any (λ child. eqb child n) ids) none in
+    let parts = or_parts (eqb x n) (list_any (λ child. eqb child n) ids) none in
     let rest = all_but p q n same ids parts.1 in
     let first = same x (unequal x n parts.0) in
     λ i. first i && rest i
-
-and_none : (a b : Bool) → b ≡ false → (a && b) ≡ false
-and_none true b e = e
-and_none false b e = refl
 
 all_false : (q : ℕ → Bool) (n : ℕ) → q n ≡ false → (ids : List ℕ) → list_any (λ child. eqb child n) ids ≡ true → list_all q ids ≡ false
 all_false q n fails [] any = absurd cc
@@ -206,7 +199,7 @@ all_false q n fails (x ∷ ids) any = here (eqb x n) refl any (all_false q n fai
   where
     here : (b : Bool) → eqb x n ≡ b → (b || list_any (λ child. eqb child n) ids) ≡ true → (list_any (λ child. eqb child n) ids ≡ true → list_all q ids ≡ false) → (q x && list_all q ids) ≡ false
     here true e any rest = let fx : q x ≡ false = ap q (equal x n e) ∙ fails in λ i. fx i && list_all q ids
-    here false e any rest = and_none (q x) (list_all q ids) (rest any)
+    here false e any rest = and_right (q x) (list_all q ids) (rest any)
 
 no_weight : (a b : Bool) → b ≡ true → (let n : ℕ = cond (a && b) 1 0 in n) ≡ 0 → a ≡ false
 no_weight true true e none = absurd (omega (arith, none))
@@ -214,7 +207,7 @@ no_weight true false e none = absurd cc
 no_weight false b e none = refl
 
 not_listed : (row : Row) → is_held row ≡ false → row.listed ≡ false
-not_listed row e = (or_none row.listed (ltb 0 row.references) e).0
+not_listed row e = (or_parts row.listed (ltb 0 row.references) e).0
 
 lowered : (n : ℕ) (older older' newer : List Row) → n < length older → map mark older' ≡ set (map mark older) n false → holders n newer ≡ 0 → Stands older newer → Stands older' newer
 lowered n older older' [] lt e none h = tt
@@ -239,7 +232,7 @@ lowered n older older' (q ∷ newer) lt e none h = (
         let weighs : weight n q ≡ 0 = omega (arith, none, holders-cons n q newer) in
         let listed : q.listed ≡ false = not_listed q (no_weight (is_held q) (stands_on n q) stood weighs) in
         let all : list_all (listed_at older') q.spec.below ≡ false = all_false (listed_at older') n (gone n older older' lt e) q.spec.below stood in
-        listed ∙ sym (and_none (not q.unlisted) (list_all (listed_at older') q.spec.below) all)
+        listed ∙ sym (and_right (not q.unlisted) (list_all (listed_at older') q.spec.below) all)
     mark_of false stood =
         let all : list_all (listed_at older') q.spec.below ≡ list_all (listed_at older) q.spec.below = all_but (listed_at older) (listed_at older') n (off n older older' e) q.spec.below stood in
         h.0 ∙ (λ i. not q.unlisted && sym all i)
@@ -267,10 +260,6 @@ unlisted-set rows p d lt h alone same =
     lower_last (x ∷ older) r row e = ap (λ (bs : List Bool). x.listed ∷ bs) (lower_last older r row e)
 
 -- ---- by the tests that the calls make
-
-both : (a b : Bool) → (a && b) ≡ true → (a ≡ true) × (b ≡ true)
-both true b e = (refl, e)
-both false b e = absurd cc
 
 less : (a b : ℕ) → ltb a b ≡ true → a < b
 less a b e = grind (arith, nat_tests)
@@ -316,7 +305,7 @@ pub unlist-alone : (rows : List Row) (p : ℕ) (d : Row) → p < length rows →
 unlist-alone rows p d lt stands test =
     let r : Row = get_or rows p d in
     let row : Row = record r { unlisted = true; listed = false } in
-    let parts = both (eqb r.references r.taken) (ltb 0 r.references || stands_on_nothing r) test in
+    let parts = and_parts (eqb r.references r.taken) (ltb 0 r.references || stands_on_nothing r) test in
     let same = weighs_same row r (ltb 0 r.references) refl (λ e. held_referenced row (less 0 r.references e) ∙ sym (held_referenced r (less 0 r.references e))) parts.1 in
     sym (standing-stands (set rows p row) (unlisted-set rows p d lt (stands-from rows stands) (equal r.references r.taken parts.0) same)) ∙ changed-bare rows p row (unlisted_row r) refl
 
@@ -347,8 +336,8 @@ put-alone rows p d lt stands test =
     let r : Row = get_or rows p d in
     let row : Row = record r { taken = r.taken - 1; references = r.references - 1 } in
     let stays : Bool = r.listed || ltb 1 r.references in
-    let parts = both (ltb 0 r.taken && ltb 0 r.references) (stays || stands_on_nothing r) test in
-    let some = both (ltb 0 r.taken) (ltb 0 r.references) parts.0 in
+    let parts = and_parts (ltb 0 r.taken && ltb 0 r.references) (stays || stands_on_nothing r) test in
+    let some = and_parts (ltb 0 r.taken) (ltb 0 r.references) parts.0 in
     let taken : 0 < r.taken = less 0 r.taken some.0 in
     let references : 0 < r.references = less 0 r.references some.1 in
     let change : IsCounted r row = record {

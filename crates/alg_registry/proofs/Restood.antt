@@ -5,9 +5,10 @@ use Rattle.std.proofs.Math.Seq.{take-append_seam, drop-append_seam}
 use Rattle.std.proofs.lemmas.List.{append-nil}
 use Rattle.std.proofs.lemmas.List.Elements.{recursion_from_All, All-from_recursion}
 use Rattle.std.proofs.lemmas.Bool.Decides.{nat_tests}
+use Rattle.std.proofs.lemmas.Bool.{and_from, and_parts}
 use Rattle.alg_registry.specs.declared.row.Row.{Row}
 use Rattle.alg_registry.specs.Rows.{is_held, stands_on, holders, listed_at, stays_listed, counted_first, counted, standing}
-use Rattle.alg_registry.specs.Counting.{remarked, remarked_by, remarked_at, remarked_all, gave, gave_all, restood}
+use Rattle.alg_registry.specs.MarkCounts.{remarked, remarked_by, remarked_at, remarked_all, gave, gave_all, restood}
 use Rattle.alg_registry.specs.Held.{ids_of, held_from, is_row_listed, passes}
 use Rattle.alg_registry.proofs.Restanding.{Stands, mark, same_stays, same_push, stands-from, marks, marked-marks, weight, holders-cons, held_listed}
 use Rattle.alg_registry.proofs.Tallies.{HasFewer, uncounted, tallied, tallied-none, tally, gave-tally, skip-tally}
@@ -54,18 +55,11 @@ under_listed (o ∷ olds) [] id under e = absurd under
 under_listed (o ∷ olds) (r ∷ rows) zero under e = under.0 e
 under_listed (o ∷ olds) (r ∷ rows) (suc id) under e = under_listed olds rows id under.1 e
 
-both : (a b : Bool) → (a && b) ≡ true → (a ≡ true) × (b ≡ true)
-both true b e = (refl, e)
-both false b e = absurd cc
-
-and : (a b : Bool) → a ≡ true → b ≡ true → (a && b) ≡ true
-and a b e f = cc
-
 all_under : (olds rows : List Row) (ids : List ℕ) → Under olds rows → list_all (listed_at rows) ids ≡ true → list_all (listed_at olds) ids ≡ true
 all_under olds rows [] under e = refl
 all_under olds rows (id ∷ ids) under e =
-    let parts = both (listed_at rows id) (list_all (listed_at rows) ids) e in
-    and (listed_at olds id) (list_all (listed_at olds) ids) (under_listed olds rows id under parts.0) (all_under olds rows ids under parts.1)
+    let parts = and_parts (listed_at rows id) (list_all (listed_at rows) ids) e in
+    and_from (listed_at olds id) (list_all (listed_at olds) ids) (under_listed olds rows id under parts.0) (all_under olds rows ids under parts.1)
 
 not_unlisted : (a b : Bool) → (a ≡ true → b ≡ true) → not b ≡ true → not a ≡ true
 not_unlisted true true h e = absurd cc
@@ -74,9 +68,9 @@ not_unlisted false b h e = refl
 
 stays_under : (olds rows : List Row) (old row : Row) → Under olds rows → IsChanged old row → stays_listed rows row ≡ true → stays_listed olds old ≡ true
 stays_under olds rows old row under change e =
-    let parts = both (not row.unlisted) (list_all (listed_at rows) row.spec.below) e in
+    let parts = and_parts (not row.unlisted) (list_all (listed_at rows) row.spec.below) e in
     let all : list_all (listed_at rows) old.spec.below ≡ true = (λ i. list_all (listed_at rows) (sym change.spec i).below) ∙ parts.1 in
-    and (not old.unlisted) (list_all (listed_at olds) old.spec.below) (not_unlisted old.unlisted row.unlisted change.unlisted parts.0) (all_under olds rows old.spec.below under all)
+    and_from (not old.unlisted) (list_all (listed_at olds) old.spec.below) (not_unlisted old.unlisted row.unlisted change.unlisted parts.0) (all_under olds rows old.spec.below under all)
 
 only_false : (a b : Bool) → (a ≡ true → b ≡ true) → b ≡ false → a ≡ false
 only_false true b h e = absurd (cc (h refl))

@@ -6,9 +6,10 @@ use Rattle.std.proofs.lemmas.List.{take_more}
 use Rattle.std.proofs.lemmas.List.Elements.{recursion_from_All, All-from_recursion}
 use Rattle.std.proofs.lemmas.List.Folds.{list_any-append}
 use Rattle.std.proofs.lemmas.Bool.Decides.{nat_tests}
+use Rattle.std.proofs.lemmas.Bool.{or_from}
 use Rattle.alg_registry.specs.declared.row.Row.{Row}
 use Rattle.alg_registry.specs.Rows.{is_held, stands_on, holders, counted}
-use Rattle.alg_registry.specs.Counting.{referred, referred_by, gave, gave_all}
+use Rattle.alg_registry.specs.MarkCounts.{referred, referred_by, gave, gave_all}
 use Rattle.alg_registry.proofs.Restanding.{weight, holders-cons}
 
 abbrev pub bit : Bool → ℕ
@@ -19,9 +20,6 @@ differ a b ne = grind (arith, nat_tests)
 
 equal : (a : ℕ) → eqb a a ≡ true
 equal a = grind (arith, nat_tests)
-
-or_false : (a b : Bool) → a ≡ false → b ≡ false → (a || b) ≡ false
-or_false a b e f = cc
 
 -- the entry with so many more references
 abbrev pub more : ℕ → Row → Row
@@ -38,12 +36,12 @@ one_more row b e = let same : row.references + 1 ≡ row.references + bit b = om
 referred-past : (n c : ℕ) (rows : List Row) → c < n → referred n (c ∷ []) rows ≡ rows
 referred-past n c [] lt = refl
 referred-past n c (row ∷ rows) lt =
-    λ i. no_more row (eqb c n || false) (or_false (eqb c n) false (differ c n (λ e. absurd (omega (arith, lt, e)))) refl) i ∷ referred-past (n + 1) c rows (omega (arith, lt)) i
+    λ i. no_more row (eqb c n || false) (or_from (eqb c n) false (differ c n (λ e. absurd (omega (arith, lt, e)))) refl) i ∷ referred-past (n + 1) c rows (omega (arith, lt)) i
 
 referred_beyond : (n c : ℕ) (rows : List Row) → n + length rows ≤ c → referred n (c ∷ []) rows ≡ rows
 referred_beyond n c [] le = refl
 referred_beyond n c (row ∷ rows) le =
-    λ i. no_more row (eqb c n || false) (or_false (eqb c n) false (differ c n (λ e. absurd (omega (arith, le, e)))) refl) i ∷ referred_beyond (n + 1) c rows (omega (arith, le)) i
+    λ i. no_more row (eqb c n || false) (or_from (eqb c n) false (differ c n (λ e. absurd (omega (arith, le, e)))) refl) i ∷ referred_beyond (n + 1) c rows (omega (arith, le)) i
 
 pub referred-beyond : (c : ℕ) (rows : List Row) → length rows ≤ c → rows ≡ referred 0 (c ∷ []) rows
 referred-beyond c rows le = sym (referred_beyond 0 c rows (omega (arith, le)))
@@ -54,7 +52,7 @@ referred_at n c zero (row ∷ rows) d at lt =
     let here : eqb c n ≡ true = subst (λ (m : ℕ). eqb c m ≡ true) (let e : c ≡ n = omega (arith, at) in e) (equal c) in
     λ i. one_more row (eqb c n || false) (ap (λ b. b || false) here) i ∷ sym (referred-past (n + 1) c rows (omega (arith, at))) i
 referred_at n c (suc k) (row ∷ rows) d at lt =
-    λ i. sym (no_more row (eqb c n || false) (or_false (eqb c n) false (differ c n (λ e. absurd (omega (arith, at, e)))) refl)) i ∷ referred_at (n + 1) c k rows d (omega (arith, at)) (omega (arith, lt)) i
+    λ i. sym (no_more row (eqb c n || false) (or_from (eqb c n) false (differ c n (λ e. absurd (omega (arith, at, e)))) refl)) i ∷ referred_at (n + 1) c k rows d (omega (arith, at)) (omega (arith, lt)) i
 
 pub referred-at : (c : ℕ) (rows : List Row) (d : Row) → c < length rows → set rows c (let r : Row = get_or rows c d in record r { references = r.references + 1 }) ≡ referred 0 (c ∷ []) rows
 referred-at c rows d lt = referred_at 0 c c rows d (omega arith) lt

@@ -1,6 +1,6 @@
 -- The table of larvals, and which of them a look has to see.
 use Rattle.std.specs.Prelude.{ℕ, ◌+◌, Bool, true, false, not, ◌==◌, ◌&&◌, ◌||◌, if◌then◌else◌, List, [], ◌∷◌, slice_get, Option, Some, None}
-use Rattle.std.specs.List.{filter, filter_map, list_any}
+use Rattle.std.specs.List.{filter, list_any}
 use Rattle.std.specs.Option.{option_and_then, option_map_or}
 use Rattle.std.specs.Str.{bytes_eq}
 use Rattle.alg_registry.specs.declared.entry.Ended.{Ended}
@@ -60,9 +60,6 @@ seen_after ended number seen = if ends_with_entry ended then seen else filter (�
 -- the entry with which a larval of the text ended
 abbrev pub joined_as : List ℕ → Larval → Option ℕ
 joined_as text larval = if bytes_eq larval.text text then entry_of larval.ended else None
-
-abbrev pub joined_by : List ℕ → List Larval → List ℕ
-joined_by text larvals = filter_map (joined_as text) larvals
 
 -- the same, of the larvals of these numbers
 abbrev pub joined_at : List ℕ → List Larval → ℕ → Option ℕ

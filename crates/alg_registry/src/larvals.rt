@@ -38,7 +38,8 @@ impl Model for Larvals {
 
     ghost view = { λ l. record { list = l.all.items; seen = l.seen.items; spare = l.spare } };
 
-    ghost invariant = { λ l. IsTable l.all.items l.seen.items l.unclaimed.items l.spare (vec_capacity l.all) (vec_capacity l.seen) (vec_capacity l.unclaimed) };
+    ghost invariant = { λ l. IsTable l.all.items l.seen.items l.unclaimed.items l.spare
+        (vec_capacity l.all) (vec_capacity l.seen) (vec_capacity l.unclaimed) };
 }
 
 fn is_larval_unclaimed(larval: &Larval) -> bool
@@ -260,7 +261,8 @@ impl Larvals {
     /// Marks the larval as the caller's.
     pub fn claim(&mut self, number: u64, caller: u32)
         requires { number < length self.old.list }
-        ensures list { (d : Larval) → self.new.list ≡ slice_set self.old.list number (claimed_larval caller (slice_index_or self.old.list number d)) }
+        ensures list { (d : Larval) → self.new.list
+            ≡ slice_set self.old.list number (claimed_larval caller (slice_index_or self.old.list number d)) }
         ensures seen { self.new.seen ≡ self.old.seen }
         ensures room { self.new.spare ≡ self.old.spare }
     {
@@ -273,7 +275,8 @@ impl Larvals {
     pub fn end(&mut self, number: u64, ended: Ended)
         requires within { number < length self.old.list }
         requires claimed { passes_at is_unclaimed self.old.list number ≡ false }
-        ensures list { (d : Larval) → self.new.list ≡ slice_set self.old.list number (ended_larval ended (slice_index_or self.old.list number d)) }
+        ensures list { (d : Larval) → self.new.list
+            ≡ slice_set self.old.list number (ended_larval ended (slice_index_or self.old.list number d)) }
         ensures seen { self.new.seen ≡ seen_after ended number self.old.seen }
         ensures room { self.new.spare ≡ self.old.spare }
     {

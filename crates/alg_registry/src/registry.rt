@@ -205,7 +205,8 @@ impl Registry {
         requires alone { spec.below ≡ [] }
         requires plain { spec.wrap ≡ Wrap.Plain }
         ensures answer { UnlessMemory result (result ≡ enlist_result (enlist_answer (rows_of self.old) spec)) }
-        ensures history { UnlessMemory result (self.new ≡ self.old ++ RegEntry.Enlist caller spec (enlist_answer (rows_of self.old) spec) ∷ []) }
+        ensures history { UnlessMemory result
+            (self.new ≡ self.old ++ RegEntry.Enlist caller spec (enlist_answer (rows_of self.old) spec) ∷ []) }
         ensures memory { OnMemory result (self.new ≡ self.old) }
         ensures legal { LegalReg self.new }
     {
@@ -313,7 +314,8 @@ impl Registry {
         requires unended { ended_as self.old larval ≡ None }
         requires builds { built_answer (rows_of self.old) spec ≡ EndAnswer.Built (length (rows_of self.old)) spec }
         ensures answer { UnlessNoMemory result (result ≡ end_of (built_answer (rows_of self.old) spec)) }
-        ensures history { self.new ≡ self.old ++ RegEntry.End caller larval (unless_memory result (built_answer (rows_of self.old) spec)) ∷ [] }
+        ensures history { self.new
+            ≡ self.old ++ RegEntry.End caller larval (unless_memory result (built_answer (rows_of self.old) spec)) ∷ [] }
         ensures legal { LegalReg self.new }
     {
         let id = self.rows.count();
@@ -347,7 +349,8 @@ impl Registry {
         requires handed { IfErr built (λ failure. IsFailure failure) }
         ensures answer { UnlessNoMemory result (result ≡ end_of (end_given (rows_of self.old) built)) }
         ensures memory { OnNoMemory result (MayLack (end_given (rows_of self.old) built)) }
-        ensures history { self.new ≡ self.old ++ RegEntry.End caller larval (unless_memory result (end_given (rows_of self.old) built)) ∷ [] }
+        ensures history { self.new
+            ≡ self.old ++ RegEntry.End caller larval (unless_memory result (end_given (rows_of self.old) built)) ∷ [] }
         ensures legal { LegalReg self.new }
     {
         match built {
@@ -403,7 +406,8 @@ impl Registry {
     pub fn unlist(&mut self, caller: u32, driver: &[u8]) -> Result<(), RegErr>
         requires { IsFalse (is_worker caller) }
         ensures answer { UnlessMemory result (result ≡ unlist_result (driver_place (rows_of self.old) driver.now)) }
-        ensures history { UnlessMemory result (self.new ≡ self.old ++ RegEntry.Unlist caller driver.now (driver_place (rows_of self.old) driver.now) ∷ []) }
+        ensures history { UnlessMemory result
+            (self.new ≡ self.old ++ RegEntry.Unlist caller driver.now (driver_place (rows_of self.old) driver.now) ∷ []) }
         ensures memory { OnMemory result (self.new ≡ self.old) }
         ensures legal { LegalReg self.new }
     {

@@ -175,7 +175,8 @@ impl Model for Rows {
 
     ghost view = { λ r. record { list = r.all.items; spare = r.spare } };
 
-    ghost invariant = { λ r. IsRowTable r.all.items r.held.items r.listed.items r.spare (vec_capacity r.all) (vec_capacity r.held) (vec_capacity r.listed) };
+    ghost invariant = { λ r. IsRowTable r.all.items r.held.items r.listed.items r.spare
+        (vec_capacity r.all) (vec_capacity r.held) (vec_capacity r.listed) };
 }
 
 impl Rows {
@@ -283,7 +284,8 @@ impl Rows {
     pub fn unlist(&mut self, place: usize)
         requires listed { listed_at self.old.list place ≡ true }
         requires few { All (λ row. row.taken < 2 ^ 61) self.old.list }
-        ensures list { (d : Row) → self.new.list ≡ standing (slice_set self.old.list place (unlisted_row (slice_index_or self.old.list place d))) }
+        ensures list { (d : Row) → self.new.list
+            ≡ standing (slice_set self.old.list place (unlisted_row (slice_index_or self.old.list place d))) }
         ensures room { self.new.spare ≡ self.old.spare }
     {
         unlist_row(&mut self.all, &self.held, place);
@@ -295,7 +297,8 @@ impl Rows {
     pub fn take(&mut self, place: usize)
         requires listed { listed_at self.old.list place ≡ true }
         requires few { All (λ row. row.taken < 2 ^ 61) self.old.list }
-        ensures list { (d : Row) → self.new.list ≡ standing (slice_set self.old.list place (taken_row (slice_index_or self.old.list place d))) }
+        ensures list { (d : Row) → self.new.list
+            ≡ standing (slice_set self.old.list place (taken_row (slice_index_or self.old.list place d))) }
         ensures room { self.new.spare ≡ self.old.spare }
     {
         let row = &mut self.all[place];
@@ -308,7 +311,8 @@ impl Rows {
         requires within { place < length self.old.list }
         requires taken { (d : Row) → 0 < (slice_index_or self.old.list place d).taken }
         requires few { All (λ row. row.taken < 2 ^ 61) self.old.list }
-        ensures list { (d : Row) → self.new.list ≡ standing (slice_set self.old.list place (put_row_of (slice_index_or self.old.list place d))) }
+        ensures list { (d : Row) → self.new.list
+            ≡ standing (slice_set self.old.list place (put_row_of (slice_index_or self.old.list place d))) }
         ensures room { self.new.spare ≡ self.old.spare }
     {
         if put_row(&mut self.all, &self.held, place) {

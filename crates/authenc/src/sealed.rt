@@ -66,7 +66,9 @@ impl<S: Skcipher + Drop> Authenc<S> {
         tag: &mut [u8; 32],
     ) -> Result<(), Errno>
         requires { length iv.now ≡ S.iv_size self.now.1 }
-        ensures { Becomes result (authenc_seal self.now.0 (S.seals self.now.1 iv.now) associated.now b.old) (b.old, tag.old) (b.new, tag.new) }
+        ensures { Becomes result
+            (authenc_seal self.now.0 (S.seals self.now.1 iv.now) associated.now b.old)
+            (b.old, tag.old) (b.new, tag.new) }
     {
         self.cipher.seal(iv, b)?;
         *tag = self.mac.mac(associated, b);
@@ -127,7 +129,9 @@ impl<S: SegCipher + Drop> Authenc<S> {
     ) -> Result<(), Errno>
         requires iv_fits { length iv.now ≡ S.iv_size self.now.1 }
         requires tag_fits { (0 < length tag.now) × (length tag.now ≤ 32) }
-        ensures text { Opens result (authenc_open self.now.0 (S.unseals self.now.1 iv.now) associated.now b.old.text tag.now) b.old.text b.new.text }
+        ensures text { Opens result
+            (authenc_open self.now.0 (S.unseals self.now.1 iv.now) associated.now b.old.text tag.now)
+            b.old.text b.new.text }
         ensures sizes { b.new.sizes ≡ b.old.sizes }
     {
         let whole = self.mac.mac_segs(associated, b);

@@ -7,10 +7,10 @@ use Rattle.std.proofs.lemmas.Bool.{cases_lt, cases_eq, eqb-true, eq-eqb, false_f
 use Rattle.std.proofs.lemmas.Option.{slice_get-get_or}
 use Rattle.std.proofs.lemmas.List.{length-map, length-drop, length-set, get_or-drop, get_or-set_same, get_or-set_other}
 use Rattle.kc_base.specs.declared.callback_list.Callback.TheVariants as callback
-use Rattle.padata_core.specs.Pad.{Pad, taken_of, ready, done_from}
+use Rattle.padata_core.specs.Pad.{Pad, taken_of, ready, done_from, emptied}
 use Rattle.board.specs.declared.entry.BoardEntry.{BoardEntry}
 use Rattle.board.specs.declared.entry.BoardEntry.TheVariants.{Finish}
-use Rattle.board.specs.Stages.{with_outcome, emptied}
+use Rattle.board.specs.Stages.{with_outcome}
 use Rattle.board.specs.Entries.{Completes, birth, accepted_in, submissions, dequeued_in, dequeues, passed_on, taken_in, takers, finished_in, finished, has, unbroken, front, completes_from, tells, callback_of, completion, meaning_at}
 use Rattle.board.specs.Kept.{IsKeptPad, outcome_at}
 use Rattle.board.proofs.Lists.{filter_map-none, filter_map-some, has-more}

@@ -8,10 +8,9 @@ use Rattle.std.proofs.lemmas.List.Elements.{filter-append}
 use Rattle.std.proofs.lemmas.List.{get_or_append_left}
 use Rattle.std.proofs.Math.Seq.{get_or-append_seam}
 use Rattle.std.proofs.Common.{add-one}
-use Rattle.padata_core.specs.Pad.{Pad, taken_of}
+use Rattle.padata_core.specs.Pad.{Pad, taken_of, with_taken}
 use Rattle.board.specs.declared.entry.BoardEntry.{BoardEntry}
 use Rattle.board.specs.declared.entry.BoardEntry.TheVariants.{Take}
-use Rattle.board.specs.Stages.{with_taken}
 use Rattle.board.specs.Shapes.{queue_born}
 use Rattle.board.specs.Entries.{birth, accepted_in, submissions, dequeued_in, dequeues, passed_on, taken_in, takings, takers, finished_in, finished, meaning_at}
 use Rattle.board.specs.Kept.{IsKeptPad, outcome_at}

@@ -35,7 +35,10 @@ fn used_by(used: &BTreeMap<u32, Used>, caller: u32) -> Used
 /// What the caller has used with one more request of `size` bytes, where its allowance has room for it.
 pub(crate) fn used_with(used: &BTreeMap<u32, Used>, caller: u32, size: u64) -> Option<Used>
     ensures room { IsSome result ↔ (((used_at used.now caller).requests < 2 ^ 20) × ((used_at used.now caller).bytes + size ≤ 2 ^ 26)) }
-    ensures more { IfSome result (λ more. more ≡ record { requests = (used_at used.now caller).requests + 1; bytes = (used_at used.now caller).bytes + size }) }
+    ensures more { IfSome result (λ more. more ≡ record {
+      requests = (used_at used.now caller).requests + 1;
+      bytes = (used_at used.now caller).bytes + size;
+    }) }
 {
     let Used { requests, bytes } = used_by(used, caller);
     let bytes = bytes.checked_add(size)?;
@@ -56,7 +59,8 @@ pub(crate) fn spend(
     more: Used,
     accepted: bool,
 ) -> Result<(), AllocError>
-    ensures ok { OnOk result ((c : ℕ) → used_at used.new c ≡ (if accepted then (if c == caller then more else used_at used.old c) else used_at used.old c)) }
+    ensures ok { OnOk result ((c : ℕ) →
+        used_at used.new c ≡ (if accepted then (if c == caller then more else used_at used.old c) else used_at used.old c)) }
     ensures err { OnErr result ((c : ℕ) → used_at used.new c ≡ used_at used.old c) }
 {
     if accepted {

@@ -9,25 +9,25 @@ use crate::pipeline::Pipeline;
 use crate::run_queue::RunQueue;
 use std::collections::BTreeMap;
 
-/// Finds a pipeline in line of which the caller may take a job. Those that it finds without one leave the line.
+/// Finds a pipeline queued of which the caller may take a job. Those that it finds without one leave the run queue.
 pub(crate) fn next_for<J: Drop, F: Drop>(
     pipes: &BTreeMap<u64, Pipeline<J, F>>,
-    line: &mut RunQueue,
+    queue: &mut RunQueue,
     caller: u32,
 ) -> Option<u64>
-    ensures kept { KeepsSuch (HasJobFor caller) (places pipes.now) line.old line.new }
-    ensures next { FindsIn (HasJobFor caller) (places pipes.now) line.old result }
+    ensures kept { KeepsSuch (HasJobFor caller) (places pipes.now) queue.old queue.new }
+    ensures next { FindsIn (HasJobFor caller) (places pipes.now) queue.old result }
 {
-    while let Some(k) = line.next() {
+    while let Some(k) = queue.next() {
         if has_job_at(pipes, k, caller) {
             return Some(k);
         }
-        line.remove(k);
+        queue.remove(k);
     }
     None
 }
 
-/// Finds a chain in line that may pass a request on. Those that it finds without one leave the line.
+/// Finds a chain queued that may pass a request on. Those that it finds without one leave the run queue.
 pub(crate) fn next_request<J: Drop, F: Drop>(
     pipes: &BTreeMap<u64, Pipeline<J, F>>,
     passing: &mut RunQueue,
@@ -46,7 +46,9 @@ pub(crate) fn next_request<J: Drop, F: Drop>(
 
 /// Whether there is an open pipeline of this number of which the caller may take a job.
 fn has_job_at<J: Drop, F: Drop>(pipes: &BTreeMap<u64, Pipeline<J, F>>, k: u64, caller: u32) -> bool
-    ensures { MatchBool result (IsOne (HasJobFor caller) (places pipes.now) k) ((x : Pipeline J F) → places pipes.now k ≡ Some x → HasJobFor caller x → ⊥) }
+    ensures { MatchBool result
+        (IsOne (HasJobFor caller) (places pipes.now) k)
+        ((x : Pipeline J F) → places pipes.now k ≡ Some x → HasJobFor caller x → ⊥) }
 {
     match pipes.get(&k) {
         Some(pipe) => pipe.has_job_for(caller),
@@ -56,7 +58,9 @@ fn has_job_at<J: Drop, F: Drop>(pipes: &BTreeMap<u64, Pipeline<J, F>>, k: u64, c
 
 /// Whether there is an open pipeline of this number that may pass a request on.
 fn has_request_at<J: Drop, F: Drop>(pipes: &BTreeMap<u64, Pipeline<J, F>>, k: u64) -> bool
-    ensures { MatchBool result (IsOne HasRequest (places pipes.now) k) ((x : Pipeline J F) → places pipes.now k ≡ Some x → HasRequest x → ⊥) }
+    ensures { MatchBool result
+        (IsOne HasRequest (places pipes.now) k)
+        ((x : Pipeline J F) → places pipes.now k ≡ Some x → HasRequest x → ⊥) }
 {
     match pipes.get(&k) {
         Some(pipe) => pipe.stage.may_pass(),

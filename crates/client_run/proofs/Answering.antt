@@ -1,30 +1,33 @@
 -- The lines of a part, answered one by one.
 use Rattle.std.proofs.Common.{◌≡◌, ℕ, ◌+◌, ◌<◌, ◌≤◌, ◌||◌, Bool, true, false, List, [], ◌∷◌, ◌++◌, length, map, refl, sym, ap, subst, ◌∙◌, append_assoc, append-nil, length-append, arith}
-use Rattle.std.specs.Prelude.{Result, Ok, Err, IsErr, MatchResult}
 use Rattle.std.specs.List.{list_any}
 use Rattle.std.proofs.lemmas.List.Folds.{list_any-append}
 use Rattle.dialogues.specs.Dialogues.{Ends}
-use Rattle.dialogues.specs.Leading.{Leads}
+use Rattle.dialogues.specs.Continuations.{Leads}
 use Rattle.dialogues.specs.Lines.{line_dialogue, lines_dialogue}
 use Rattle.dialogues.specs.Transcripts.{Transcript, IsTranscript, ended, joined, text_in, transcript_of}
 use Rattle.dialogues.specs.Widths.{width_of, widest}
+use Rattle.dialogues.proofs.Leading.{text-joined}
 use Rattle.script_run.specs.Text.{is_malformed}
-use Rattle.script_session.specs.Performing.{Stops}
-use Rattle.script_session.specs.Running.{IsReady, Replies}
+use Rattle.script_run.proofs.Following.{sees-then}
+use Rattle.script_run.proofs.Fronts.{widest-front, widest-last}
+use Rattle.script_session.specs.PerformedDialogue.{Stops}
+use Rattle.script_session.specs.Replies.{IsReady, Replies}
 use Rattle.script_session.specs.States.{State, SameLocks}
+use Rattle.script_session.proofs.Rules.{called-nothing}
 use Rattle.script_text.specs.Lines.{lines_of}
 use Rattle.script_text.specs.Script.{line_of, script_of}
 use Rattle.script_text.specs.declared.commands.Line.{Line}
-use Rattle.recorded_calls.specs.Asking.{AskedBy, IsCaller}
+use Rattle.recorded_calls.specs.RegistryCalls.{AskedBy, IsCaller}
 use Rattle.recorded_calls.specs.Passes.{known}
 use Rattle.recorded_calls.specs.Pipelines.{Called}
+use Rattle.recorded_calls.proofs.Boarding.{called-more as called-then}
 use Rattle.shared_board.specs.declared.shared.SharedBoard.{SharedBoard}
 use Rattle.shared_registry.specs.declared.registry_lock.SharedRegistry.{SharedRegistry}
 use Rattle.transforms.specs.declared.ask.Ask.{Ask}
 use Rattle.transforms.specs.declared.request.Finished.{Finished}
 use Rattle.client_run.specs.Laws.{Laws}
-use Rattle.client_run.proofs.Following.{sees-then}
-use Rattle.client_run.proofs.Turns.{texts-joined, asked-none, asked-then, asked-more, called-none, called-then, called-more, locks-same, locks-then, widest-front, widest-last}
+use Rattle.client_run.proofs.Turns.{asked-none, asked-then, asked-more, called-more, locks-same, locks-then}
 
 -- What a script has done since its session was this one: the turn of these lines, whatever comes after them.
 pub record Led (first : State) (text : List ℕ) (done : List Line) (number : ℕ) (s : State) (text' : List ℕ) : Type 0 where
@@ -42,7 +45,7 @@ module _ (laws : Laws) (first : State) (caller : IsCaller (known first.registry)
     leads = λ left. laws.nowhere first.workers first.script_state 1 left;
     locks = locks-same first;
     asked = asked-none laws (known first.registry) caller;
-    called = called-none (known first.board);
+    called = called-nothing (known first.board);
     says = sym (append-nil text);
   }
 
@@ -65,7 +68,7 @@ module _ (laws : Laws) (first : State) (caller : IsCaller (known first.registry)
           says =
               r.says
               ∙ (ap (λ x. x ++ text_in u) led.says
-              ∙ (append_assoc text (text_in t) (text_in u) ∙ ap (λ x. text ++ x) (sym (texts-joined t u))));
+              ∙ (append_assoc text (text_in t) (text_in u) ∙ ap (λ x. text ++ x) (sym (text-joined t u))));
         }
 
     -- with no line left it is the turn of the lines
@@ -83,21 +86,10 @@ module _ (laws : Laws) (first : State) (caller : IsCaller (known first.registry)
           asked = subst (AskedBy (widest done) (known first.registry) (known s.registry)) (sym (append-nil t.registry)) led.asked;
           called = subst (Called (known first.board) (known s.board)) (sym (append-nil t.board)) led.called;
           ends = refl;
-          says = led.says ∙ ap (λ x. text ++ x) (sym (texts-joined t e ∙ append-nil (text_in t)));
+          says = led.says ∙ ap (λ x. text ++ x) (sym (text-joined t e ∙ append-nil (text_in t)));
         })
 
 -- ---- a session that goes no further
-
-pub stopped : {A F : Type 0} (result : Result A F) (Done : A → Type 0) {Stopped : Type 0} → IsErr result → Stopped → MatchResult result Done (λ _. Stopped)
-stopped (Ok done) Done is stop = absurd cc
-stopped (Err error) Done is stop = stop
-
-pub stops-same : (s : State) → Stops s s
-stops-same s = record {
-  locks = locks-same s;
-  registry = record { number = refl; next = refl; seen = ([], sym (append-nil (known s.registry).seen)) };
-  board = record { more = record { number = refl; next = refl; seen = ([], sym (append-nil (known s.board).seen)) }; unshut = λ zero_is. refl };
-}
 
 pub stops-then : (s t u : State) → Stops s t → Stops t u → Stops s u
 stops-then s t u a b = record {

@@ -1,5 +1,5 @@
 -- What a client's script leaves.
-use Rattle.std.proofs.Common.{◌≡◌, ℕ, ◌+◌, ◌-◌, ◌≤◌, Bool, true, List, [], ◌++◌, Option, Some, None, refl, sym, ap, subst, ◌∙◌, arith}
+use Rattle.std.proofs.Common.{◌≡◌, ℕ, ◌+◌, ◌-◌, ◌≤◌, Bool, true, List, [], ◌++◌, Option, Some, None, sym, ap, subst, ◌∙◌, arith}
 use Rattle.std.specs.Prelude.{is_some, slice_get, All, Contains, Result, Ok, Err, IfOk, MatchResult}
 use Rattle.std.specs.List.{list_any}
 use Rattle.std.proofs.lemmas.List.Elements.{All-contains, All-weaker, Contains-get_or}
@@ -12,30 +12,32 @@ use Rattle.board.specs.Legal.{LegalBoard}
 use Rattle.crew.specs.declared.passes.Passes.{Passes}
 use Rattle.crew.specs.Both.{ArePassesOn}
 use Rattle.crew.specs.Peers.{OthersFollow}
-use Rattle.dialogues.specs.Allocating.{lists_beside}
+use Rattle.dialogues.specs.AllocAndFree.{lists_beside}
 use Rattle.dialogues.specs.BoardCalls.{board_calls}
 use Rattle.dialogues.specs.Dialogues.{Dialogue, Ends}
 use Rattle.dialogues.specs.Lines.{lines_dialogue, script_beside}
-use Rattle.dialogues.specs.Piping.{end_beside}
+use Rattle.dialogues.specs.PipelineCommands.{end_beside}
 use Rattle.dialogues.specs.RegistryCalls.{reg_calls}
 use Rattle.dialogues.specs.Texts.{IsTextOf, IsClientText, turn_by}
 use Rattle.dialogues.specs.Transcripts.{Transcript, IsTranscript, joined, text_in, transcript_of}
 use Rattle.dialogues.specs.ScriptState.{Live, PipelineState, start_beside}
 use Rattle.dialogues.specs.Widths.{widest}
+use Rattle.dialogues.proofs.Leading.{text-joined}
 use Rattle.script_run.specs.Text.{is_malformed}
-use Rattle.script_session.specs.Ending.{AnswersEndBeside, EndsDelivered}
-use Rattle.script_session.specs.Performing.{Stops}
-use Rattle.script_session.specs.Running.{IsReady, Replies}
+use Rattle.script_session.specs.EndOfInput.{AnswersEndBeside, EndsDelivered}
+use Rattle.script_session.specs.PerformedDialogue.{Stops}
+use Rattle.script_session.specs.Replies.{IsReady, Replies}
 use Rattle.script_session.specs.States.{State, HasShared}
 use Rattle.script_text.specs.declared.commands.Line.{Line}
-use Rattle.recorded_calls.specs.Asking.{IsCaller}
+use Rattle.recorded_calls.specs.RegistryCalls.{IsCaller}
 use Rattle.recorded_calls.specs.Passes.{known}
-use Rattle.recorded_calls.specs.Sharing.{SharedStaysKnown}
+use Rattle.recorded_calls.specs.SharedCalls.{SharedStaysKnown}
+use Rattle.recorded_calls.proofs.Boarding.{called-more as called-then}
 use Rattle.shared_board.specs.declared.shared.SharedBoard.{SharedBoard}
 use Rattle.shared_registry.specs.declared.registry_lock.SharedRegistry.{SharedRegistry}
 use Rattle.transforms.specs.declared.ask.Ask.{Ask}
 use Rattle.transforms.specs.declared.request.Finished.{Finished}
-use Rattle.turn_lock.specs.Meeting.{AtTurn, Leaves, IsOwn}
+use Rattle.turn_lock.specs.PassLaws.{IsOwn}
 use Rattle.turn_lock.specs.Passes.{knows}
 use Rattle.turn_lock.specs.Turns.{Known, of}
 use Rattle.client_run.specs.declared.client.ClientText.{ClientText}
@@ -44,15 +46,9 @@ use Rattle.client_run.specs.Meets.{HasMet, HaveMet, AnswersPart}
 use Rattle.client_run.specs.Parts.{MayRun, ClientAnswers}
 use Rattle.client_run.proofs.Following.{uncalled, unasked, reg_calls-same, board_calls-same}
 use Rattle.client_run.proofs.Fresh.{fresh-posted, fresh-wide, fresh-stands}
-use Rattle.client_run.proofs.Turns.{texts-joined, asked-then, asked-more, called-then, called-more, locks-then, lines-followed, widest-some}
+use Rattle.client_run.proofs.Turns.{asked-then, asked-more, called-more, locks-then, lines-followed, widest-some}
 
 -- ---- a turn at which nothing is done
-
-pub has-met : {E : Type 0} (by : E → ℕ) (Kept : List E → Type 0) (k l : Known E) → AtTurn by Kept k (λ h. Leaves k h l) → HasMet by k l
-has-met by Kept k l t = subst (HasMet by k) (sym t.2) (record { number = refl; made = refl; seen = (t.1.others, t.1.goes_on); own = t.1.shows.made })
-
-pub met-legal : (k l : Known (BoardEntry Ask)) → AtTurn board_caller LegalBoard k (λ h. Leaves k h l) → LegalBoard l.seen
-met-legal k l t = subst (λ (x : Known (BoardEntry Ask)). LegalBoard x.seen) (sym t.2) t.1.kept
 
 -- a pass that had made nothing has seen no entry of its own
 met-none : {E : Type 0} (by : E → ℕ) (k l : Known E) → HasMet by k l → k.made ≡ [] → of by l.number l.seen ≡ []
@@ -116,7 +112,7 @@ answers-part laws lines s t u text text' bad caller replies ends bad_is paid =
           (omega arith) (widest-some lines) caller replies.asked ends.asked;
       called = called-then (known s.board) (known t.board) (known u.board) x.board y.board replies.called ends.called;
       ended = ap is_some ends.ends;
-      text_is = ends.says ∙ (ap (λ xs. xs ++ text_in y) replies.says ∙ sym (texts-joined x y));
+      text_is = ends.says ∙ (ap (λ xs. xs ++ text_in y) replies.says ∙ sym (text-joined x y));
       malformed = bad_is;
       paid = paid;
     }

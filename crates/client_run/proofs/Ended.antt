@@ -2,10 +2,11 @@
 use Rattle.std.proofs.Common.{◌≡◌, ◌<◌, ◌≤◌, ◌⊎◌, ◌+◌, ℕ, Bool, true, false, List, [], ◌∷◌, ◌++◌, sym, ap, ◌∙◌, subst, arith, inl, inr}
 use Rattle.std.specs.Prelude.{◌==◌, if◌then◌else◌}
 use Rattle.std.proofs.lemmas.Bool.{eq-eqb}
-use Rattle.turn_lock.specs.Going.{starts_through}
+use Rattle.turn_lock.specs.TurnLaws.{starts_through}
 use Rattle.turn_lock.specs.Turns.{Known, Each, Has, StartsWith, Shows, of}
-use Rattle.turn_lock.specs.Meeting.{IsOwn}
+use Rattle.turn_lock.specs.PassLaws.{IsOwn}
 use Rattle.crew.specs.Peers.{HasEnded, OthersFollow, EndedStays, EndedAreAlone, FirstIsAlone, CallersAre}
+use Rattle.crew.proofs.Peering.{has_on}
 use Rattle.client_run.specs.WithWorkers.{IsHistoryOf, GaveNumbers}
 
 module _ {A : Type 0} where
@@ -20,14 +21,6 @@ module _ {A : Type 0} where
   pub each-map : (P Q : A → Type 0) → ((x : A) → P x → Q x) → (xs : List A) → Each P xs → Each Q xs
   each-map P Q f [] each = tt
   each-map P Q f (x ∷ xs) each = (f x each.0, each-map P Q f xs each.1)
-
-  pub has-on : (P : A → Type 0) (ys xs : List A) → StartsWith ys xs → Has P xs → Has P ys
-  has-on P ys xs starts h = subst (Has P) (sym starts.1) (left xs h)
-    where
-      left : (xs : List A) → Has P xs → Has P (xs ++ starts.0)
-      left [] h = absurd h
-      left (x ∷ xs) (inl p) = inl p
-      left (x ∷ xs) (inr h) = inr (left xs h)
 
 module _ {E : Type 0} (by : E → ℕ) where
   -- what was kept of a number that has ended is what the history has of it
@@ -71,7 +64,7 @@ module _ {E : Type 0} (by : E → ℕ) (k : Known E) (log : List E) (h : IsHisto
 
   -- what ended in it made what is kept of it
   pub ended-made : (n : ℕ) (made : List E) → Has (λ x. x ≡ (n, made)) k.ended → of by n log ≡ made
-  ended-made n made has = kept-of by n made log h.last.ended h.shows.ended (has-on (λ x. x ≡ (n, made)) h.last.ended k.ended h.ended has)
+  ended-made n made has = kept-of by n made log h.last.ended h.shows.ended (has_on (λ x. x ≡ (n, made)) h.last.ended k.ended h.ended has)
 
   -- others alone follow on what a client's pass had seen
   pub client-alone : ((w l m : Known E) → EndedStays w l m) → ((by : E → ℕ) (w l : Known E) (xs : List E) → EndedAreAlone by w l xs)
@@ -91,4 +84,4 @@ module _ {E : Type 0} (by : E → ℕ) (k : Known E) (log : List E) (h : IsHisto
       (subst (λ n. Each (λ e. by e < n) log) (h.next ∙ few) (h.shows.below (h.number ∙ zero_is)))
   callers-beside law workers clients zero_is (inr gave) =
       law by workers clients h.last log (h.number ∙ zero_is) (h.next ∙ gave.0)
-      (λ j low high. has-on (λ x. x ≡ (j, [])) h.last.ended k.ended h.ended (gave.1 j low high)) h.shows
+      (λ j low high. has_on (λ x. x ≡ (j, [])) h.last.ended k.ended h.ended (gave.1 j low high)) h.shows

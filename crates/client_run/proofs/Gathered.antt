@@ -2,12 +2,12 @@
 use Rattle.std.proofs.Common.{◌≡◌, ℕ, ◌+◌, Bool, true, false, ◌||◌, List, [], ◌∷◌, ◌++◌, length, map, Ok, refl, sym, ap, ◌∙◌, arith, append-nil, append_assoc, ◌≤◌}
 use Rattle.std.specs.Prelude.{reverse, Result, Err, IsOk, IfOk}
 use Rattle.std.specs.List.{list_any}
-use Rattle.std.proofs.lemmas.List.{reverse-reverse, reverse-append, map-append, length-append, length-reverse, length-map}
+use Rattle.std.proofs.lemmas.List.{reverse-append, map-append, length-append}
 use Rattle.std.proofs.lemmas.List.Folds.{list_any-append}
 use Rattle.reply_text.specs.Answers.{heading}
 use Rattle.client_texts.specs.Outputs.{under_headings}
 use Rattle.client_run.specs.declared.client.ClientText.{ClientText}
-use Rattle.client_run.specs.WithWorkers.{PutsTexts, texts_in, is_bad}
+use Rattle.client_run.specs.WithWorkers.{texts_in, is_bad}
 
 pub under-one-more : (n : ℕ) (texts : List (List ℕ)) (text : List ℕ) → under_headings n (texts ++ text ∷ []) ≡ under_headings n texts ++ (heading (n + length texts) ++ text)
 under-one-more n [] text = (let e : n + 0 ≡ n = omega arith in append-nil (heading n ++ text) ∙ ap (λ m. heading m ++ text) (sym e))
@@ -44,34 +44,6 @@ pub record Gathered {F : Type 0} (outs left : List (Result ClientText F)) (clien
   pub client_is : client ≡ 1 + length said
 
 module _ {F : Type 0} where
-  pub gathered-none : (outs : List (Result ClientText F)) (text now : List ℕ) (bad bad' : Bool) → length outs ≤ 8 → now ≡ text → bad' ≡ bad → Gathered outs outs 1 text now bad bad'
-  gathered-none outs text now bad bad' few text_is bad_is = record {
-    few = few;
-    said = [];
-    cut = sym (append-nil outs);
-    text_is = text_is ∙ sym (append-nil text);
-    malformed = bad_is ∙ sym (or-false bad);
-    client_is = refl;
-  }
-
-  -- no more answers were added than there are
-  pub gathered-few : (outs left : List (Result ClientText F)) (client : ℕ) (text now : List ℕ) (bad bad' : Bool) → Gathered outs left client text now bad bad' → client ≤ 9
-  gathered-few outs left client text now bad bad' g =
-      let a = g.few in
-      let b = g.client_is in
-      let c = ap (λ xs. length xs) g.cut ∙ length-append left (reverse (map (λ x. Ok x) g.said)) in
-      let oks : List (Result ClientText F) = map (λ x. Ok x) g.said in
-      let d : length (reverse oks) ≡ length g.said = length-reverse oks ∙ length-map g.said (λ x. Ok x) in
-      omega arith
-
-  pub gathered-all : (outs : List (Result ClientText F)) (client : ℕ) (text now : List ℕ) (bad bad' : Bool) → Gathered outs [] client text now bad bad' → PutsTexts outs text now bad bad'
-  gathered-all outs client text now bad bad' g = record {
-    said = g.said;
-    all = ap reverse g.cut ∙ reverse-reverse (map (λ x. Ok x) g.said);
-    text_is = g.text_is;
-    malformed = g.malformed;
-  }
-
   pub gathered-more : (outs left rest : List (Result ClientText F)) (client : ℕ) (text now : List ℕ) (bad bad' : Bool) (x : ClientText) (now' : List ℕ) (bad'' : Bool) → Gathered outs left client text now bad bad'
       → left ≡ rest ++ Ok x ∷ [] → now' ≡ (now ++ heading client) ++ x.reply.text → bad'' ≡ bad' || x.malformed → Gathered outs rest (client + 1) text now' bad bad''
   gathered-more outs left rest client text now bad bad' x now' bad'' g popped grown worse = record {

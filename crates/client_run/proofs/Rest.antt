@@ -1,10 +1,10 @@
 -- What is known once the clients have ended, and once the board is shut.
-use Rattle.std.proofs.Common.{◌≡◌, ◌<◌, ◌≤◌, ◌+◌, ◌-◌, ℕ, suc, Bool, false, ◌||◌, List, [], ◌∷◌, ◌++◌, length, map, Option, Some, None, Ok, sym, refl, ap, ◌∙◌, subst, arith, inl, inr, append_assoc}
+use Rattle.std.proofs.Common.{◌≡◌, ◌<◌, ◌≤◌, ◌+◌, ◌-◌, ℕ, suc, Bool, false, ◌||◌, List, [], ◌∷◌, ◌++◌, length, map, Some, Ok, sym, refl, ap, ◌∙◌, subst, arith, inl, inr, append_assoc}
 use Rattle.std.specs.Prelude.{◌==◌, if◌then◌else◌, Result, IfOk, slice_get}
 use Rattle.std.specs.List.{list_any}
 use Rattle.std.proofs.lemmas.Bool.{eq-eqb}
 use Rattle.std.proofs.lemmas.List.{length-append}
-use Rattle.std.proofs.lemmas.List.Elements.{filter-append, All-nil, All-cons, All-head, All-tail}
+use Rattle.std.proofs.lemmas.List.Elements.{filter-append}
 use Rattle.alg_registry.specs.declared.entry.RegEntry.{RegEntry}
 use Rattle.alg_registry.specs.Rows.{caller_of as reg_caller}
 use Rattle.board.specs.declared.entry.BoardEntry.{BoardEntry}
@@ -16,19 +16,19 @@ use Rattle.client_texts.specs.Outputs.{AreClientTexts}
 use Rattle.crew.specs.Crews.{Crewed}
 use Rattle.crew.specs.declared.passes.Passes.{Passes}
 use Rattle.crew.specs.Peers.{HasEnded, Peered, OthersFollow, RunsOnBoth}
-use Rattle.dialogues.specs.ScriptState.{Live, PipelineState}
+use Rattle.dialogues.specs.ScriptState.{Live}
 use Rattle.script_run.specs.Text.{is_malformed}
-use Rattle.script_session.specs.Ending.{EndsDelivered}
-use Rattle.script_session.specs.Gathering.{IsJoined, EndsFirst}
-use Rattle.script_session.specs.Lending.{AreLent, HasLent}
-use Rattle.script_session.specs.States.{AreShared, HasShared, owners}
+use Rattle.script_session.specs.EndOfInput.{EndsDelivered}
+use Rattle.script_session.specs.SharedEnd.{IsJoined}
+use Rattle.script_session.specs.Loans.{AreLent}
+use Rattle.script_session.specs.States.{owners}
 use Rattle.script_text.specs.Script.{script_of}
 use Rattle.recorded_calls.specs.declared.stop.Stop.{Stop}
 use Rattle.recorded_calls.specs.Pipelines.{Owns}
-use Rattle.recorded_calls.specs.Sharing.{HaveEnded, LentIsShared}
+use Rattle.recorded_calls.specs.SharedCalls.{HaveEnded}
 use Rattle.transforms.specs.declared.ask.Ask.{Ask}
-use Rattle.turn_lock.specs.Going.{starts_through}
-use Rattle.turn_lock.specs.Meeting.{AtTurn, Enters, Leaves, IsOwn}
+use Rattle.turn_lock.specs.TurnLaws.{starts_through}
+use Rattle.turn_lock.specs.PassLaws.{AtTurn, Enters, Leaves, IsOwn}
 use Rattle.turn_lock.specs.Passes.{knows}
 use Rattle.turn_lock.specs.Turns.{Known, Each, Has, StartsWith, Shows}
 use Rattle.client_run.specs.declared.client.ClientText.{ClientText}
@@ -113,9 +113,6 @@ module _ (peers : PeerLaws (BoardEntry Ask)) (shuts : ShutLaws) (o j m : Known (
   pub met-gone : PeersGone m
   met-gone = subst PeersGone (sym turn.2) (shuts.gone j h turn.1 ended.first ended.ended)
 
-  pub met-own : IsOwn board_caller m
-  met-own = subst (λ (x : Known (BoardEntry Ask)). IsOwn board_caller x) (sym turn.2) turn.1.shows.made
-
   pub met-starts : StartsWith m.seen j.seen
   met-starts = (turn.1.others, seen-all ∙ turn.1.goes_on)
 
@@ -156,34 +153,9 @@ module _ (shuts : ShutLaws) (k l : Known (BoardEntry Ask)) (gone : PeersGone k) 
   pub shut-next : l.next ≡ k.next
   shut-next = ap (λ (x : Known (BoardEntry Ask)). x.next) turn.2.0
 
-  pub shut-ended : l.ended ≡ k.ended
-  shut-ended = ap (λ (x : Known (BoardEntry Ask)). x.ended) turn.2.0
-
 -- where no client began, none is left
 pub none-began : (workers : ℕ) (k : Known (BoardEntry Ask)) → workers ≤ 16 → k.number ≡ 0 → k.next ≡ workers + 1 → PeersGone k
 none-began workers k few zero_is next = record { first = zero_is; gone = λ n low high. absurd (omega arith) }
-
--- the first one's shut, at its end
-pub ends-last : (lives : List Live) (k l : Known (BoardEntry Ask)) (text text' : List ℕ) → EndsFirst lives k l text text' → HasShutLast l
-ends-last lives k l text text' e = record {
-  gone = e.gone;
-  own = e.own;
-  before = e.shut.before;
-  shut = e.shut.shut ∙ ap (λ n. e.shut.before ++ Shut n ∷ []) e.gone.first;
-}
-
--- ---- what the clients know
-
-one-known : ((k l : Known (BoardEntry Ask)) (pipe : PipelineState) → LentIsShared k l pipe) → (o : Option PipelineState) (k l : Known (BoardEntry Ask)) → l.seen ≡ k.seen → 17 ≤ l.number → HasLent k o → HasShared l o
-one-known law None k l seen low lent = tt
-one-known law (Some pipe) k l seen low lent = law k l pipe seen (inr (omega arith)) lent
-
-pub shared-known : ((k l : Known (BoardEntry Ask)) (pipe : PipelineState) → LentIsShared k l pipe) → (lives : List Live) (k l : Known (BoardEntry Ask)) → l.seen ≡ k.seen → 17 ≤ l.number → AreLent lives k → AreShared lives l
-shared-known law [] k l seen low lent = All-nil (λ (live : Live). HasShared l live.pipe)
-shared-known law (live ∷ lives) k l seen low lent =
-    All-cons (λ (one : Live). HasShared l one.pipe) live lives
-    (one-known law live.pipe k l seen low (All-head (λ (one : Live). HasLent k one.pipe) live lives lent))
-    (shared-known law lives k l seen low (All-tail (λ (one : Live). HasLent k one.pipe) live lives lent))
 
 -- ---- the clients' texts
 

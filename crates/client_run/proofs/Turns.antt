@@ -1,29 +1,22 @@
 -- One turn after another, and what a caller knows after it.
-use Rattle.std.proofs.Common.{◌≡◌, ℕ, ◌+◌, ◌≤◌, List, [], ◌∷◌, ◌++◌, refl, sym, ap, subst, ◌∙◌, append_assoc, append-nil, arith}
-use Rattle.std.proofs.lemmas.Grind.{flat_map-append}
+use Rattle.std.proofs.Common.{◌≡◌, ℕ, ◌+◌, ◌≤◌, List, [], ◌∷◌, ◌++◌, refl, sym, ap, subst, ◌∙◌, arith}
 use Rattle.alg_registry.specs.declared.entry.RegEntry.{RegEntry}
 use Rattle.board.specs.declared.entry.BoardEntry.{BoardEntry}
-use Rattle.dialogues.specs.BoardCalls.{BoardCall, board_calls}
+use Rattle.dialogues.specs.BoardCalls.{BoardCall}
 use Rattle.dialogues.specs.Dialogues.{Dialogue, Ends, Says, Asks, Posts, followed}
 use Rattle.dialogues.specs.InTurn.{AreInTurnBy}
 use Rattle.dialogues.specs.Lines.{line_dialogue, lines_dialogue}
 use Rattle.dialogues.specs.RegistryCalls.{RegCall}
-use Rattle.dialogues.specs.Transcripts.{Transcript, joined, text_in}
 use Rattle.dialogues.specs.ScriptState.{ScriptState}
-use Rattle.dialogues.specs.Widths.{width_of, widest}
-use Rattle.reply_text.specs.Answers.{text_of}
-use Rattle.script_session.specs.Performing.{HasSeenMore}
+use Rattle.dialogues.specs.Widths.{widest}
+use Rattle.script_session.specs.PerformedDialogue.{HasSeenMore}
 use Rattle.script_session.specs.States.{State, SameLocks}
 use Rattle.script_text.specs.declared.commands.Line.{Line}
-use Rattle.recorded_calls.specs.Asking.{AskedBy, IsCaller}
+use Rattle.recorded_calls.specs.RegistryCalls.{AskedBy, IsCaller}
 use Rattle.recorded_calls.specs.Pipelines.{Called}
 use Rattle.transforms.specs.declared.ask.Ask.{Ask}
 use Rattle.turn_lock.specs.Turns.{Known}
 use Rattle.client_run.specs.Laws.{Laws}
-use Rattle.client_run.proofs.Following.{starts-same, starts-trans}
-
-pub texts-joined : (t u : Transcript) → text_in (joined t u) ≡ text_in t ++ text_in u
-texts-joined t u = flat_map-append text_of t.answers u.answers
 
 -- ---- the registry
 
@@ -50,17 +43,6 @@ pub asked-more : (width : ℕ) (k l : Known RegEntry) (calls : List RegCall) →
 asked-more width k l calls asked = record { number = asked.number; next = asked.next; seen = (asked.are.more, asked.are.goes_on) }
 
 -- ---- the board
-
-pub called-none : (k : Known (BoardEntry Ask)) → Called k k []
-called-none k = record { number = refl; next = refl; seen = starts-same k.seen; calls_are = sym (append-nil (board_calls k.number k.seen)) }
-
-pub called-then : (k l m : Known (BoardEntry Ask)) (a b : List BoardCall) → Called k l a → Called l m b → Called k m (a ++ b)
-called-then k l m a b x y = record {
-  number = y.number ∙ x.number;
-  next = y.next ∙ x.next;
-  seen = starts-trans k.seen l.seen m.seen x.seen y.seen;
-  calls_are = y.calls_are ∙ (ap (λ cs. cs ++ b) x.calls_are ∙ append_assoc (board_calls k.number k.seen) a b);
-}
 
 pub called-more : (k l : Known (BoardEntry Ask)) (calls : List BoardCall) → Called k l calls → HasSeenMore k l
 called-more k l calls called = record { number = called.number; next = called.next; seen = called.seen }
@@ -99,11 +81,3 @@ lines-followed workers n script_state (line ∷ lines) rest =
 pub widest-some : (lines : List Line) → 1 ≤ widest lines
 widest-some [] = omega arith
 widest-some (line ∷ lines) = let later = widest-some lines in omega arith
-
-pub widest-front : (first later : List Line) → widest first ≤ widest (first ++ later)
-widest-front [] later = widest-some later
-widest-front (line ∷ first) later = let on = widest-front first later in omega arith
-
-pub widest-last : (first : List Line) (line : Line) → width_of line ≤ widest (first ++ line ∷ [])
-widest-last [] line = omega arith
-widest-last (other ∷ first) line = let on = widest-last first line in omega arith

@@ -3,7 +3,7 @@ use Rattle.std.proofs.Common.{◌≡◌, ◌≤◌, ◌⊎◌, ℕ, Bool, true, 
 use Rattle.std.specs.Prelude.{IfOk, IfErr, IfSome, IsOk, IsTrue, OnOk, OnErr, ⊤}
 use Rattle.std.specs.List.{list_any}
 use Rattle.std.specs.Io.KnownBytes.{Appends, Keeps, Consumes, IsAtEnd}
-use Rattle.std.proofs.KnownBytes.{Appends-trans}
+use Rattle.std.proofs.KnownBytes.{Appends-trans, Keeps-refl}
 use Rattle.std.proofs.lemmas.List.Elements.{All-nil}
 use Rattle.alg_registry.specs.declared.entry.RegEntry.{RegEntry}
 use Rattle.board.specs.declared.entry.BoardEntry.{BoardEntry}
@@ -25,10 +25,6 @@ use Rattle.client_run.specs.WithWorkers.{PartsRan, printed_by}
 use Rattle.client_run.specs.Clients.{RanClients, RanParts, IsCut, GainsFrontOrNone, has_malformed}
 
 -- ---- what is written
-
-pub keeps-self : (held : Option (List ℕ)) → Keeps held held
-keeps-self None = tt
-keeps-self (Some xs) = refl
 
 pub on-err : {X E : Type 0} (r : Result X E) (T : Type 0) → T → OnErr r T
 on-err (Ok x) T t = tt
@@ -125,7 +121,7 @@ module _ (workers clients : ℕ) (trace : Bool) (parts : List (List ℕ)) (held 
 pub no-parts : (workers clients : ℕ) (trace : Bool) (parts : List (List ℕ)) (held : Option (List ℕ)) → RanParts workers clients trace parts held held [] [] (Err NoMemory)
 no-parts workers clients trace parts held = record {
   whole = tt;
-  front = inl (keeps-self held);
+  front = inl (Keeps-refl held);
   fits = λ asked. tt;
   malformed = tt;
   shut = tt;
@@ -237,7 +233,7 @@ nothing-ran workers clients trace status left left' held is = record {
   shut = λ low. absurd (high is low);
   one_list = λ low. absurd (high is low);
   malformed = λ low. absurd (high is low);
-  unwritten = λ read. keeps-self held;
+  unwritten = λ read. Keeps-refl held;
   front = λ fault. none left;
 }
   where
@@ -248,7 +244,7 @@ nothing-ran workers clients trace status left left' held is = record {
 
     none : (o : Option (List ℕ)) → IfSome o (λ input. GainsFrontOrNone held held (IsOutput workers clients input [] []) (traced trace [] []))
     none None = tt
-    none (Some input) = inl (keeps-self held)
+    none (Some input) = inl (Keeps-refl held)
 
 pub read-status : (e : RunError) → (e ≡ ReadFault) ⊎ (e ≡ NoMemory) ⊎ (e ≡ TooLong) → (status_of (Err e) ≡ 3) ⊎ (status_of (Err e) ≡ 5) ⊎ (status_of (Err e) ≡ 6)
 read-status e (inl is) = inl (ap (λ x. status_of (Err x)) is)

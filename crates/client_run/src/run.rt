@@ -8,7 +8,7 @@ ghost use Rattle.script_run.specs.Endings.{traced};
 ghost use Rattle.script_run.specs.Runs.{ReadsUpTo};
 ghost use Rattle.script_run.specs.Statuses.{status_of};
 ghost use Rattle.trace_text.specs.Asks.{ask_origin};
-ghost use Rattle.trace_text.specs.Trace.{trace_of, FitTypes};
+ghost use Rattle.trace_text.specs.Trace.{FitTypes};
 ghost use Rattle.client_run.specs.WithWorkers.{in_one, printed_by};
 ghost use Rattle.client_run.specs.Clients.{RanClients, RanParts};
 
@@ -16,16 +16,15 @@ use crate::with_workers::{Output, PartsRun, run_parts};
 use alg_registry::RegLog;
 use board::BoardLog;
 use crew::Gate;
-use kc_base::{Bytes, Sink, SinkError, Source, read_input, write_and_flush, write_piece};
+use kc_base::{Bytes, Sink, SinkError, Source, read_input, write_piece};
 use reply_text::Reply;
 use run_options::ClientOptions;
-use script_run::{MAX_INPUT, RunError, RunResult};
+use script_run::{MAX_INPUT, RunError, RunResult, put_trace};
 use script_text::{Part, cut_parts};
 use std::alloc::{AllocError, Global};
 use std::sync::Wait;
 use std::thread::Threads;
 use trace_laws::client_traces_can_be_read;
-use trace_text::write_trace;
 use transforms::Ask;
 
 // How many bytes are asked for at once.
@@ -64,26 +63,6 @@ fn write_texts<K: Sink>(texts: &[Reply], out: &mut K) -> Result<(), SinkError>
     out.flush()
 }
 
-// Writes the trace of these histories in one piece.
-fn put_trace<K: Sink>(
-    alloc: Global,
-    registry: &RegLog,
-    board: &BoardLog<Ask>,
-    out: &mut K,
-) -> Result<(), RunError>
-    ensures bytes { MatchResult result
-        (λ _. Appends (K.held out.old) (K.held out.new) (trace_of ask_origin registry.now board.now))
-        (λ _. AppendsFront (K.held out.old) (K.held out.new) (trace_of ask_origin registry.now board.now)) }
-    ensures fits { OnOk result (FitTypes ask_origin registry.now board.now) }
-    ensures later { K.faults out.old ≤ K.faults out.new }
-    ensures cause { IsErrOf result RunError.WriteFault → Rose (K.faults out.old) (K.faults out.new) }
-    ensures causes { IfErr result (λ e. (e ≡ RunError.WriteFault) ⊎ (e ≡ RunError.NoMemory)) }
-{
-    let text = write_trace(alloc, registry, board)?;
-    write_and_flush(out, text.as_slice())?;
-    Ok(())
-}
-
 // Writes the trace of these histories, if it is asked for.
 fn put_traced<K: Sink>(
     alloc: Global,
@@ -106,8 +85,8 @@ fn put_traced<K: Sink>(
     Ok(())
 }
 
-// Writes the whole output, text after text, and then the trace where it is asked for. Where memory was wanting for the output, nothing
-// is written.
+// Writes the whole output, text after text, and then the trace where it is asked for. Where memory was wanting for the
+// output, nothing is written.
 fn write_output<K: Sink>(
     alloc: Global,
     trace: bool,

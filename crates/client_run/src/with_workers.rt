@@ -8,7 +8,7 @@ ghost use Rattle.crew.specs.Both.{ArePassesOn, CrewedOnBoth};
 ghost use Rattle.reply_text.specs.Answers.{heading};
 ghost use Rattle.board.specs.Legal.{is_shut};
 ghost use Rattle.script_run.specs.Runs.{AreNew};
-ghost use Rattle.script_session.specs.Gathering.{IsJoined};
+ghost use Rattle.script_session.specs.SharedEnd.{IsJoined};
 ghost use Rattle.script_text.specs.declared.commands.Line.{Line};
 ghost use Rattle.script_text.specs.Script.{script_of};
 ghost use Rattle.shared_board.specs.Passes.{IsPassOn};
@@ -33,6 +33,7 @@ use client_texts::requests_in_order;
 use crew::{Gate, Passes, peers_end, run_crew, run_peers};
 use recorded_calls::{Stop, shared_is_known};
 use reply_text::Reply;
+use script_run::first_locks;
 use script_session::{Shared, end_first};
 use script_text::Part;
 use shared_board::{BoardPass, SharedBoard};
@@ -42,7 +43,8 @@ use std::sync::Wait;
 use std::thread::Threads;
 use transforms::{Ask, Finished, Job};
 
-/// What several scripts came to: the texts that they printed, one behind the other, and whether a line of any part is malformed.
+/// What several scripts came to: the texts that they printed, one behind the other, and whether a line of any part is
+/// malformed.
 #[derive(Drop)]
 pub struct Output {
     pub texts: Vec<Reply>,
@@ -154,8 +156,8 @@ fn put_texts(
     Ok(output)
 }
 
-// Puts all texts one behind the other, and the end of the first one's input behind them; the board is shut last, however
-// it ends.
+// Puts all texts one behind the other, and the end of the first one's input behind them; the board is shut last,
+// however it ends.
 fn end_all<G: Gate, R: Wait>(
     rt: &R,
     alloc: Global,
@@ -358,19 +360,6 @@ fn parts_with_workers<G: Gate + Sync, R: Threads + Wait + Sync>(
         registry: registry.finish_all(rt, on_registry),
         board: board.finish_all(rt, on_board),
     }
-}
-
-// Both locks, with their first passes.
-fn first_locks(alloc: Global) -> Result<(SharedBoard<Job>, SharedRegistry, Passes<Ask>), AllocError>
-    ensures { IfOk result (λ r. ArePassesOn r.0 r.1 r.2 × (knows r.2.board ≡ fresh_pass) × (knows r.2.registry ≡ fresh_pass)) }
-{
-    let (registry, on_registry) = SharedRegistry::new(alloc)?;
-    let (board, on_board) = SharedBoard::new(alloc)?;
-    let passes = Passes {
-        board: on_board,
-        registry: on_registry,
-    };
-    Ok((board, registry, passes))
 }
 
 /// Answers all parts of an input, of at most 2^28 bytes each, beside at most 16 workers, on a board and a registry of

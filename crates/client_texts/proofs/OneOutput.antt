@@ -1,5 +1,5 @@
 -- An input has one output over two histories.
-use Rattle.std.proofs.Common.{◌≡◌, ℕ, ◌+◌, List, [], ◌∷◌, ◌++◌, append-nil, length, map, drop, Option, Some, None, refl, sym, ap, subst, ◌∙◌}
+use Rattle.std.proofs.Common.{◌≡◌, ℕ, ◌+◌, List, [], ◌∷◌, ◌++◌, append-nil, length, drop, Some, None, sym, ap, subst, ◌∙◌}
 use Rattle.std.proofs.Math.Seq.{drop-append_seam}
 use Rattle.alg_registry.specs.declared.entry.RegEntry.{RegEntry}
 use Rattle.board.specs.declared.entry.BoardEntry.{BoardEntry}
@@ -9,11 +9,11 @@ use Rattle.dialogues.specs.BoardCalls.{BoardCall, board_calls}
 use Rattle.dialogues.specs.Dialogues.{Dialogue, Ends, followed}
 use Rattle.dialogues.specs.Lines.{lines_dialogue}
 use Rattle.dialogues.specs.RegistryCalls.{RegCall, reg_calls}
-use Rattle.dialogues.specs.Sharing.{closing}
+use Rattle.dialogues.specs.SharedTransforms.{closing}
 use Rattle.dialogues.specs.Texts.{AreFirstTexts}
 use Rattle.dialogues.specs.Transcripts.{Transcript, IsTranscript, ended, joined, transcript_of, text_in}
 use Rattle.dialogues.specs.ScriptState.{ScriptState, Live, start}
-use Rattle.client_texts.specs.Outputs.{AreClientTexts, IsOutputOf, IsOutputBy, under_headings}
+use Rattle.client_texts.specs.Outputs.{AreClientTexts, IsOutputBy, under_headings}
 use Rattle.client_texts.proofs.Submitting.{followed-ends}
 
 abbrev pub Follows : Type 0

@@ -1,8 +1,7 @@
 -- What a caller's calls submit are the requests that were accepted from it, and those of one pipeline are among them.
-use Rattle.std.proofs.Common.{◌≡◌, ℕ, suc, ◌+◌, ◌≤◌, Bool, true, false, cond, List, [], ◌∷◌, ◌++◌, append-nil, map, filter, Option, Some, None, refl, sym, ap, subst, ◌∙◌, arith}
-use Rattle.std.specs.Prelude.{◌==◌, if◌then◌else◌, ⊤}
+use Rattle.std.proofs.Common.{◌≡◌, ℕ, ◌+◌, ◌≤◌, Bool, true, false, cond, List, [], ◌∷◌, ◌++◌, append-nil, map, filter, Option, Some, None, refl, sym, ap, subst, ◌∙◌, arith}
+use Rattle.std.specs.Prelude.{◌==◌, if◌then◌else◌}
 use Rattle.std.specs.Arc.{arc_value}
-use Rattle.std.specs.List.{filter_map}
 use Rattle.std.specs.List.{cons_option}
 use Rattle.std.specs.Option.{option_map}
 use Rattle.std.proofs.lemmas.List.Elements.{filter_map-append}
@@ -10,19 +9,17 @@ use Rattle.alg_registry.specs.declared.entry.RegEntry.{RegEntry}
 use Rattle.board.specs.Allowance.{accepted_from, accepted_by}
 use Rattle.board.specs.declared.entry.BoardEntry.{BoardEntry}
 use Rattle.board.specs.declared.entry.BoardEntry.TheVariants.{Born, Submit, Take, Finish, Enq, Deq, Done, Hold, Go, Collect, Close, Share, Mask, Shut}
-use Rattle.board.specs.declared.entry.Entered.{Entered}
 use Rattle.board.specs.declared.entry.Entered.TheVariants.{InProgress, Busy, NoSpace}
-use Rattle.board.specs.Entries.{entries_of, is_of, accepted_in, caller_of}
+use Rattle.board.specs.Entries.{entries_of, is_of}
 use Rattle.script_text.specs.declared.commands.Line.{Line}
 use Rattle.transforms.specs.declared.ask.Ask.{Ask}
 use Rattle.dialogues.specs.BoardCalls.{Asked, asked_by, BoardCall, Creates, Submits, Enqueues, Holds, Goes, Collects, Closes, Shares, Masks, Shuts, board_call_of, board_calls, board_calls_from}
 use Rattle.dialogues.specs.Dialogues.{Ends}
-use Rattle.dialogues.specs.RegistryCalls.{if_own, prepend, reg_calls}
-use Rattle.dialogues.specs.Sharing.{closing}
+use Rattle.dialogues.specs.RegistryCalls.{prepend, reg_calls}
 use Rattle.dialogues.specs.Texts.{IsClientText, AreFirstTexts}
-use Rattle.dialogues.specs.Transcripts.{Transcript, transcript_of}
+use Rattle.dialogues.specs.Transcripts.{Transcript}
 use Rattle.dialogues.specs.ScriptState.{ScriptState, Live, start, start_beside}
-use Rattle.client_texts.specs.Sharing.{AreInOrder}
+use Rattle.client_texts.specs.OneList.{AreInOrder}
 use Rattle.client_texts.proofs.Submitting.{accepted_call, accepted_calls, Ascends, lines-ascend, end-beside-ascends, closing-ascends}
 
 -- ---- one entry

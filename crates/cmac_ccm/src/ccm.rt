@@ -67,7 +67,9 @@ impl<C: BlockCipher + Drop> Ccm<C> {
         requires text_short { length b.old < 65536 }
         requires tag_taken { IsTrue (ccm_takes_tag (length tag.old)) }
         ensures { let given = ccm_seal (C.sealed self.now) (length tag.old) iv.now aad.now b.old in
-            MatchResult result (λ _. given ≡ Some (b.new, tag.new)) (λ e. (e ≡ Errno.EINVAL) × (given ≡ None) × (b.new ≡ b.old) × (tag.new ≡ tag.old)) }
+            MatchResult result
+            (λ _. given ≡ Some (b.new, tag.new))
+            (λ e. (e ≡ Errno.EINVAL) × (given ≡ None) × (b.new ≡ b.old) × (tag.new ≡ tag.old)) }
     {
         if !takes_iv(iv) {
             return Err(Errno::EINVAL);
@@ -113,7 +115,8 @@ impl<C: BlockCipher + Drop> Ccm<C> {
         requires iv_taken { slice_index iv.now 0 ≤ 7 }
         requires tag_short { tag_len ≤ 16 }
         requires aad_short { length aad.now < 2 ^ 16 }
-        ensures { result ≡ xor_blocks (ccm_chained (C.sealed self.now) tag_len iv.now aad.now text.now) (C.sealed self.now (ccm_counter iv.now 0)) }
+        ensures { result
+            ≡ xor_blocks (ccm_chained (C.sealed self.now) tag_len iv.now aad.now text.now) (C.sealed self.now (ccm_counter iv.now 0)) }
     {
         let mut chain = [0u8; 16];
         chain_block(

@@ -1,13 +1,7 @@
 -- The command line is one of which `clap` says exactly what it accepts.
-use Rattle.std.proofs.Common.{◌≡◌, ◌∙◌, Bool, Option, true, refl, ap}
-use Rattle.clap.specs.Words.{Text, is_simple, is_simple_and_free}
-use Rattle.command_line.specs.CommandLine.{script_app, mode_by}
-
-pub script_is_free : is_simple_and_free script_app ≡ true
-script_is_free = refl
-
-pub script_is_simple : is_simple script_app ≡ true
-script_is_simple = refl
+use Rattle.std.proofs.Common.{◌≡◌, ◌∙◌, Bool, Option, ap}
+use Rattle.clap.specs.Words.{Text}
+use Rattle.command_line.specs.CommandLine.{mode_by}
 
 pub same_mode : {w x n o l m c d : Option Text} {t u : Bool} → w ≡ x → t ≡ u → n ≡ o → l ≡ m → c ≡ d → mode_by w t n l c ≡ mode_by x u o m d
 same_mode {w} {x} {n} {o} {l} {m} {c} {d} {t} {u} a b g e f =

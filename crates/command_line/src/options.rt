@@ -55,7 +55,8 @@ fn scripts_given(
     trace: bool,
     clients: Option<&str>,
 ) -> Result<Mode, CommandLineError>
-    ensures value { result ≡ scripts_mode (workers_of (option_map (λ s. s.now) workers.entry)) trace (option_map (λ s. s.now) clients.entry) }
+    ensures value { result
+        ≡ scripts_mode (workers_of (option_map (λ s. s.now) workers.entry)) trace (option_map (λ s. s.now) clients.entry) }
     ensures bounds { IfOk result IsWithinLimits }
 {
     match clients {

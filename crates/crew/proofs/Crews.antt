@@ -7,19 +7,16 @@ use Rattle.std.proofs.lemmas.List.{append_assoc, append-nil}
 use Rattle.std.proofs.lemmas.List.Folds.{list_any-append}
 use Rattle.std.proofs.Math.Nat.{eq-or-lt_of_le}
 use Rattle.turn_lock.specs.Turns.{Known, Each, Has, StartsWith, of, gives_number, gets_number, joined, skipped}
-use Rattle.turn_lock.specs.Going.{none_after}
-use Rattle.turn_lock.specs.Going.{starts_through}
+use Rattle.turn_lock.specs.TurnLaws.{none_after}
+use Rattle.turn_lock.specs.TurnLaws.{starts_through}
+use Rattle.turn_lock.proofs.Lists.{each_more}
 use Rattle.board.specs.declared.entry.BoardEntry.{BoardEntry}
 use Rattle.board.specs.Legal.{is_shut, is_shut_entry}
-use Rattle.board.specs.Staying.{is_work}
-use Rattle.crew.specs.Working.{Worked}
+use Rattle.board.specs.PipelineHistory.{is_work}
+use Rattle.crew.specs.BoardWork.{Worked}
 use Rattle.crew.specs.Crews.{Crewed, SawEnd, with_next, CrewsEnd, CrewWorks}
 
 module _ {A : Type 0} where
-  each_end : (P : A → Type 0) (xs : List A) (x : A) → Each P xs → P x → Each P (xs ++ x ∷ [])
-  each_end P [] x ps p = (p, tt)
-  each_end P (y ∷ ys) x ps p = (ps.0, each_end P ys x ps.1 p)
-
   has_more : (P : A → Type 0) (xs : List A) (x : A) → Has P xs → Has P (xs ++ x ∷ [])
   has_more P [] x h = absurd h
   has_more P (y ∷ ys) x (inl p) = inl p
@@ -45,13 +42,6 @@ module _ {E : Type 0} where
       let b : own.next + rest ≡ k.next + count = omega arith in
       let s : k.ended ++ skipped k.next (k.next - k.next) ≡ k.ended = ap (λ xs. k.ended ++ xs) (skips_none k.next (k.next - k.next) (omega arith)) ∙ append-nil k.ended in
       (λ i. with_next (b i) (gave i)) ∙ (λ i. record { number = k.number; next = k.next + count; seen = k.seen; made = k.made; ended = s i })
-
-  -- the same, with the number that the split was given
-  pub at_next : (k own : Known E) (n : ℕ) → n ≡ k.next → own ≡ gives_number n k → own ≡ gives_number k.next k
-  at_next k own n e gave = subst (λ m. own ≡ gives_number m k) e gave
-
-  pub got_next : (k own : Known E) (n : ℕ) → n ≡ k.next → own ≡ gets_number n k → own ≡ gets_number k.next k
-  got_next k own n e got = subst (λ m. own ≡ gets_number m k) e got
 
 module _ {E : Type 0} (does : E → Bool) where
   pub crewed_none : (from count : ℕ) (k : Known E) → count ≡ 0 → Crewed does from count k k
@@ -83,7 +73,7 @@ module _ {E : Type 0} (does : E → Bool) where
         seen = starts_through l.seen m.seen q.seen seen crewed.seen;
         more = crewed.more ++ x ∷ [];
         ended = ap (λ n. n.ended) is ∙ (ap (λ xs. m.ended ++ xs ++ x ∷ []) w_none ∙ (ap (λ xs. xs ++ x ∷ []) (append-nil m.ended ∙ crewed.ended) ∙ append_assoc q.ended crewed.more (x ∷ [])));
-        works = each_end (λ y. list_all does y.1 ≡ true) crewed.more x crewed.works made;
+        works = each_more (λ y. list_all does y.1 ≡ true) crewed.more x crewed.works made;
         all = λ i a b. ⊎_elim
             (λ e. has_end (λ y. y.0 ≡ i) crewed.more x (w_number ∙ e))
             (λ lt. has_more (λ y. y.0 ≡ i) crewed.more x (crewed.all i (omega arith) (omega arith)))

@@ -1,23 +1,20 @@
 -- A crew on two locks with one worker more.
-use Rattle.std.proofs.Common.{◌≡◌, ℕ, ◌+◌, ◌-◌, ◌<◌, true, [], ◌++◌, ap, ◌∙◌, arith}
+use Rattle.std.proofs.Common.{◌≡◌, ℕ, ◌+◌, ◌<◌, true, ◌++◌, ap, ◌∙◌, arith}
 use Rattle.std.specs.List.{list_all}
-use Rattle.turn_lock.specs.Turns.{Known, gives_number, gets_number, skipped}
+use Rattle.turn_lock.specs.Turns.{Known, gets_number}
 use Rattle.turn_lock.specs.Passes.{knows}
-use Rattle.board.specs.Staying.{is_work}
+use Rattle.board.specs.PipelineHistory.{is_work}
 use Rattle.board.specs.Legal.{is_shut}
 use Rattle.alg_registry.specs.declared.entry.RegEntry.{RegEntry}
-use Rattle.shared_registry.specs.Building.{Works, is_building}
+use Rattle.shared_registry.specs.Builds.{Works, is_building}
 use Rattle.shared_registry.specs.Laws.{WorksStill, WorksOn}
 use Rattle.crew.specs.declared.passes.Passes.{Passes}
 use Rattle.crew.specs.Both.{WorkedOnBoth, AreFirst, HaveRoom, HaveNext, AreSplit, AreJoined, CrewedOnBoth}
 use Rattle.crew.proofs.Works.{worked_still, worked_on}
-use Rattle.crew.proofs.Crews.{next_same, next_more, crewed_none, crewed_more, saw_none, saw_end, worked_alone, skips_none}
+use Rattle.crew.proofs.Crews.{next_same, next_more, crewed_none, crewed_more, saw_none, saw_end, worked_alone}
 
 built_alone : (k other w : Known RegEntry) (n : ℕ) → other ≡ gets_number n k → Works other w → list_all is_building w.made ≡ true
 built_alone k other w n got works = ap (list_all is_building) (works.goes.made ∙ ap (λ x. x.made ++ works.work) got) ∙ works.all_work
-
-gave_none : {E : Type 0} (k own : Known E) → own ≡ gives_number k.next k → k.ended ≡ [] → own.ended ≡ []
-gave_none k own gave none = ap (λ n. n.ended) gave ∙ ((λ i. none i ++ skipped k.next (k.next - k.next)) ∙ skips_none k.next (k.next - k.next) (omega arith))
 
 module _ {A : Type 0} where
   pub both_still : WorksStill → (p : Passes A) → WorkedOnBoth p p
@@ -27,14 +24,6 @@ module _ {A : Type 0} where
   both_on on p q r a b = record {
     board = worked_on (knows p.board) (knows q.board) (knows r.board) a.board b.board;
     registry = on (knows p.registry) (knows q.registry) (knows r.registry) a.registry b.registry;
-  }
-
-  pub room_left : (left rest : ℕ) (p own other : Passes A) → left ≡ rest + 1 → HaveRoom left p → AreSplit p own other → HaveRoom rest own
-  room_left left rest p own other one room split = record {
-    board = gave_none (knows p.board) (knows own.board) split.board_gives room.board;
-    registry = gave_none (knows p.registry) (knows own.registry) split.registry_gives room.registry;
-    board_room = (let h = room.board_room in let n = ap (λ x. x.next) split.board_gives in omega arith);
-    registry_room = (let h = room.registry_room in let n = ap (λ x. x.next) split.registry_gives in omega arith);
   }
 
   pub next_none : (left : ℕ) (p : Passes A) → left ≡ 0 → HaveNext left p p

@@ -1,15 +1,15 @@
 -- Callers beside a first one.
-use Rattle.std.proofs.Common.{◌≡◌, ◌≢◌, ◌<◌, ◌≤◌, ◌⊎◌, ℕ, zero, suc, Bool, true, false, List, [], ◌∷◌, ◌++◌, length, sym, refl, ap, ◌∙◌, subst, ◌+◌, ◌-◌, arith, ⊎_elim, inl, inr}
-use Rattle.std.specs.Prelude.{◌==◌, if◌then◌else◌, map, reverse, IfOk, IsOk, Result, Ok, Err}
+use Rattle.std.proofs.Common.{◌≡◌, ◌<◌, ◌≤◌, ◌⊎◌, ℕ, zero, suc, Bool, true, false, List, [], ◌∷◌, ◌++◌, length, sym, refl, ap, ◌∙◌, subst, ◌+◌, ◌-◌, arith, inl, inr}
+use Rattle.std.specs.Prelude.{◌==◌, if◌then◌else◌, reverse, IfOk, IsOk, Result, Ok, Err}
 use Rattle.std.proofs.lemmas.Bool.{eq-eqb, cases_lt}
 use Rattle.std.proofs.lemmas.List.{append_assoc, append-nil, reverse-append}
 use Rattle.std.proofs.Math.Nat.{eq-or-lt_of_le}
-use Rattle.turn_lock.specs.Turns.{Known, Each, Has, StartsWith, Shows, of, gives_number, gets_number, joined, skipped}
-use Rattle.turn_lock.specs.Meeting.{IsOwn}
-use Rattle.turn_lock.specs.Going.{none_after, starts_through}
+use Rattle.turn_lock.specs.Turns.{Known, Each, Has, StartsWith, of, gives_number, gets_number, joined, skipped}
+use Rattle.turn_lock.specs.TurnLaws.{none_after, starts_through}
 use Rattle.turn_lock.specs.Passes.{knows}
+use Rattle.turn_lock.proofs.Lists.{each_map}
 use Rattle.crew.specs.declared.passes.Passes.{Passes}
-use Rattle.crew.specs.Peers.{HasEnded, Peered, AreFreshFrom, RunsOnBoth, OthersFollow, PeersLeave, PeersTakeNumbers, PeersHaveEnded, EndedStays, EndedAreAlone, FirstIsAlone, CallersAre}
+use Rattle.crew.specs.Peers.{HasEnded, Peered, RunsOnBoth, PeersLeave, PeersTakeNumbers, PeersHaveEnded, EndedStays, EndedAreAlone, FirstIsAlone, CallersAre}
 
 module _ {A : Type 0} where
   starts_same : (xs : List A) → StartsWith xs xs
@@ -26,10 +26,6 @@ module _ {A : Type 0} where
 
   pub has_on : (P : A → Type 0) (ys xs : List A) → StartsWith ys xs → Has P xs → Has P ys
   has_on P ys xs starts h = subst (Has P) (sym starts.1) (has_left P xs starts.0 h)
-
-  each_map : (P Q : A → Type 0) (xs : List A) → ((x : A) → P x → Q x) → Each P xs → Each Q xs
-  each_map P Q [] f each = tt
-  each_map P Q (x ∷ xs) f each = (f x each.0, each_map P Q xs f each.1)
 
 -- a number that was passed over is kept, without an entry
 skips_each : (E : Type 0) (from count j : ℕ) → from ≤ j → j < from + count → Has (λ x. x ≡ (j, [])) (skipped {E = E} from count)

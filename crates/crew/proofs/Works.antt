@@ -1,22 +1,19 @@
 -- What work leaves of a pass.
-use Rattle.std.proofs.Common.{◌≡◌, ℕ, Option, Some, None, Bool, true, false, ◌&&◌, List, [], ◌∷◌, ◌++◌, append-nil, refl, sym, ◌∙◌, ap, subst, ◌⊎◌, inl, inr}
+use Rattle.std.proofs.Common.{◌≡◌, ℕ, Option, Some, None, Bool, true, false, List, [], ◌∷◌, ◌++◌, append-nil, refl, sym, ◌∙◌, ap, subst, ◌⊎◌, inl, inr}
 use Rattle.std.specs.Prelude.{MatchBool, MatchOption}
 use Rattle.std.specs.List.{list_all}
 use Rattle.std.proofs.lemmas.List.Folds.{list_all-append}
+use Rattle.std.proofs.lemmas.Bool.{and_from}
 use Rattle.turn_lock.specs.Turns.{Known, sees}
-use Rattle.turn_lock.specs.Meeting.{Meets, AtTurn, Enters, Leaves}
-use Rattle.turn_lock.specs.Going.{stays, goes_left, goes_entered, goes_added, goes_then}
+use Rattle.turn_lock.specs.PassLaws.{Meets, AtTurn, Enters, Leaves}
+use Rattle.turn_lock.specs.TurnLaws.{stays, goes_left, goes_entered, goes_added, goes_then}
 use Rattle.board.specs.declared.entry.BoardEntry.{BoardEntry}
-use Rattle.board.specs.Shapes.{is_pad, is_chain, has_line}
+use Rattle.board.specs.Shapes.{is_pad, is_chain, has_queue}
 use Rattle.board.specs.Entries.{entries_of, caller_of, take_entry, finish_entry, pass_entry, NoneFor, NonePasses}
 use Rattle.board.specs.Legal.{Is, MayManage, IsOpen, LegalBoard}
-use Rattle.board.specs.Staying.{is_work, TakingIsWork, FinishingIsWork, PassingIsWork}
+use Rattle.board.specs.PipelineHistory.{is_work, TakingIsWork, FinishingIsWork, PassingIsWork}
 use Rattle.board.specs.Others.{StaysKnown, WorkLeavesKnown}
-use Rattle.crew.specs.Working.{FinishesFirst, RunsFirst, FindsNoJob, WorksSome, FindsNone, Worked}
-
-both_true : (a b : Bool) → a ≡ true → b ≡ true → (a && b) ≡ true
-both_true true b h g = g
-both_true false b h g = cc
+use Rattle.crew.specs.BoardWork.{FinishesFirst, RunsFirst, FindsNoJob, WorksSome, FindsNone, Worked}
 
 module _ {A : Type 0} where
   abbrev Legal : List (BoardEntry A) → Type 0
@@ -32,14 +29,14 @@ module _ {A : Type 0} where
   worked_entry k l f all t = record {
     own = f t.0 ∷ [];
     goes = goes_entered caller_of Legal k l f t (all t.0).1;
-    work = both_true (is_work (f t.0)) true (all t.0).0 refl;
+    work = and_from (is_work (f t.0)) true (all t.0).0 refl;
   }
 
   pub worked_on : (k l m : Known (BoardEntry A)) → Worked k l → Worked l m → Worked k m
   worked_on k l m a b = record {
     own = a.own ++ b.own;
     goes = goes_then caller_of Legal k l m a.own b.own a.goes b.goes;
-    work = list_all-append is_work a.own b.own ∙ both_true (list_all is_work a.own) (list_all is_work b.own) a.work b.work;
+    work = list_all-append is_work a.own b.own ∙ and_from (list_all is_work a.own) (list_all is_work b.own) a.work b.work;
   }
 
   -- a second entry of a turn
@@ -47,7 +44,7 @@ module _ {A : Type 0} where
   worked_added m l e all entered = record {
     own = e ∷ [];
     goes = goes_added caller_of Legal m l e entered all.1;
-    work = both_true (is_work e) true all.0 refl;
+    work = and_from (is_work e) true all.0 refl;
   }
 
   -- what a turn that finishes a job goes on with: nothing, or the next job v, which is number j v of the pipeline q v
@@ -127,4 +124,4 @@ module _ {A : Type 0} (leaves : (h es : List (BoardEntry A)) (p caller : ℕ) �
 
   pub open_worked : (k l : Known (BoardEntry A)) (p : ℕ) → Worked k l → MayManage (entries_of p k.seen) k.number → IsOpen (entries_of p k.seen) → IsOpen (entries_of p l.seen)
   open_worked k l p w may (inl o) = inl ((known_worked k l p w may).opened is_pad o)
-  open_worked k l p w may (inr o) = inr ((known_worked k l p w may).opened has_line o)
+  open_worked k l p w may (inr o) = inr ((known_worked k l p w may).opened has_queue o)

@@ -92,9 +92,11 @@ fn add_workers<
     requires lock { ArePassesOn board.now registry.now passes }
     requires room { HaveRoom left passes }
     requires main { (p : _) → ArePassesOn board.now registry.now p → HaveNext left passes p → S.can_run main p }
-    requires gives_back { (p q : _) (x : _) → ArePassesOn board.now registry.now p → S.gives main p q x → ArePassesOn board.now registry.now q }
+    requires gives_back { (p q : _) (x : _) → ArePassesOn board.now registry.now p → S.gives main p q x
+        → ArePassesOn board.now registry.now q }
     ensures lock { ArePassesOn board.now registry.now result.0 }
-    ensures main { (p q : _) × ArePassesOn board.now registry.now p × HaveNext left passes p × S.gives main p q result.1 × CrewedOnBoth left passes q result.0 }
+    ensures main { (p q : _) × ArePassesOn board.now registry.now p × HaveNext left passes p
+        × S.gives main p q result.1 × CrewedOnBoth left passes q result.0 }
 {
     if left == 0 {
         return main.run(passes);
@@ -114,9 +116,11 @@ fn add_workers<
             requires shared { IsSync R.row }
             requires room { HaveRoom rest own }
             requires main { (p : _) → ArePassesOn board.now registry.now p → HaveNext rest own p → S.can_run main p }
-            requires gives_back { (p q : _) (x : _) → ArePassesOn board.now registry.now p → S.gives main p q x → ArePassesOn board.now registry.now q }
+            requires gives_back { (p q : _) (x : _) → ArePassesOn board.now registry.now p → S.gives main p q x
+                → ArePassesOn board.now registry.now q }
             ensures lock { ArePassesOn board.entry.now registry.entry.now result.0 }
-            ensures main { (p q : _) × ArePassesOn board.entry.now registry.entry.now p × HaveNext rest own p × S.gives main p q result.1 × CrewedOnBoth rest own q result.0 }
+            ensures main { (p q : _) × ArePassesOn board.entry.now registry.entry.now p × HaveNext rest own p
+                × S.gives main p q result.1 × CrewedOnBoth rest own q result.0 }
         { add_workers(rt, alloc, rest, board, registry, own, gate, main) },
     );
     (join_both(board, registry, mine, other), answer)
@@ -146,10 +150,10 @@ fn take_back<T>(x: &mut T)
     ensures { x.new ≡ x.old }
 {}
 
-/// Calls `main` once, beside at most 16 workers that work until the board is shut. The passes are the first of both locks, with the
-/// number 0, none given and none joined. Worker i, counted from 1, has the number i on both
-/// locks; `main` gets the passes, whose next numbers are then `workers + 1`. The passes that come back are those that `main`
-/// gave back, with the workers' joined into them.
+/// Calls `main` once, beside at most 16 workers that work until the board is shut. The passes are the first of both
+/// locks, with the number 0, none given and none joined. Worker i, counted from 1, has the number i on both
+/// locks; `main` gets the passes, whose next numbers are then `workers + 1`. The passes that come back are those that
+/// `main` gave back, with the workers' joined into them.
 pub fn run_crew<
     W: Work,
     G: Gate + Sync,
@@ -170,9 +174,11 @@ pub fn run_crew<
     requires few { workers < 17 }
     requires first { AreFirst passes }
     requires main { (p : _) → ArePassesOn board.now registry.now p → HaveNext workers passes p → M.pre main.old p }
-    requires gives_back { (g : _) (p q : _) (x : _) → ArePassesOn board.now registry.now p → M.step main.old p (q, x) g → ArePassesOn board.now registry.now q }
+    requires gives_back { (g : _) (p q : _) (x : _) → ArePassesOn board.now registry.now p → M.step main.old p (q, x) g
+        → ArePassesOn board.now registry.now q }
     ensures lock { ArePassesOn board.now registry.now result.0 }
-    ensures main { (p q : _) × ArePassesOn board.now registry.now p × HaveNext workers passes p × M.step main.old p (q, result.1) main.new × CrewedOnBoth workers passes q result.0 }
+    ensures main { (p q : _) × ArePassesOn board.now registry.now p × HaveNext workers passes p
+        × M.step main.old p (q, result.1) main.new × CrewedOnBoth workers passes q result.0 }
 {
     let (passes, (main, answer)) = add_workers(
         rt,

@@ -13,7 +13,7 @@ mod peers;
 pub use board_work::{drain, work_some};
 pub use both::work_on;
 pub use crew::run_crew;
-pub use gate::{Gate, NoGate};
+pub use gate::{BarrierGate, Gate, NoGate};
 pub use laws::{crew_works, crews_end};
 pub use passes::Passes;
 pub use peer_laws::peers_end;

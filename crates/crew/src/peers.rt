@@ -78,7 +78,8 @@ fn run_peer<W: Work, P: Peer<Passes<W::Ask>>>(
 ) -> (Passes<W::Ask>, P::Out)
     requires lock { ArePassesOn _board.now _registry.now passes }
     requires can_run { P.can_run peer.now number passes }
-    requires gives_back { (n : ℕ) (p q : PassesOf W.Ask) (x : P.Out) → ArePassesOn _board.now _registry.now p → P.gives peer.now n p q x → ArePassesOn _board.now _registry.now q × KeepNumbers p q }
+    requires gives_back { (n : ℕ) (p q : PassesOf W.Ask) (x : P.Out) → ArePassesOn _board.now _registry.now p
+        → P.gives peer.now n p q x → ArePassesOn _board.now _registry.now q × KeepNumbers p q }
     ensures lock { ArePassesOn _board.now _registry.now result.0 }
     ensures numbers { KeepNumbers passes result.0 }
     ensures gives { P.gives peer.now number passes result.0 result.1 }
@@ -86,8 +87,9 @@ fn run_peer<W: Work, P: Peer<Passes<W::Ask>>>(
     peer.run(number, passes)
 }
 
-/// Runs so many callers, each beside the others and with passes of its own, whose numbers begin at `number` on both locks; then joins
-/// their passes into the first caller's. Want of memory loses what they gave, and nothing else: each has ended.
+/// Runs so many callers, each beside the others and with passes of its own, whose numbers begin at `number` on both
+/// locks; then joins their passes into the first caller's. Want of memory loses what they gave, and nothing else: each
+/// has ended.
 pub fn run_peers<
     W: Work,
     X: Drop + Send,
@@ -107,9 +109,11 @@ pub fn run_peers<
     requires next { ((knows passes.board).next ≤ number) × ((knows passes.registry).next ≤ number) }
     requires room { number + left + 1 < 2 ^ 32 }
     requires peer { (n : ℕ) (p : PassesOf W.Ask) → ArePassesOn board.now registry.now p → AreFreshFrom n passes p → P.can_run peer.now n p }
-    requires gives_back { (n : ℕ) (p q : PassesOf W.Ask) (x : X) → ArePassesOn board.now registry.now p → P.gives peer.now n p q x → ArePassesOn board.now registry.now q × KeepNumbers p q }
+    requires gives_back { (n : ℕ) (p q : PassesOf W.Ask) (x : X) → ArePassesOn board.now registry.now p
+        → P.gives peer.now n p q x → ArePassesOn board.now registry.now q × KeepNumbers p q }
     ensures lock { ArePassesOn board.now registry.now result.0 }
-    ensures ran { (rs : List (PassesOf W.Ask × X)) × IfOk result.1 (λ outs. AreOuts outs.items rs) × RanBeside (P.gives peer.now) number left passes rs result.0 }
+    ensures ran { (rs : List (PassesOf W.Ask × X)) × IfOk result.1 (λ outs. AreOuts outs.items rs)
+        × RanBeside (P.gives peer.now) number left passes rs result.0 }
 {
     if left == 0 {
         return (passes, Ok(Vec::new(alloc)));
@@ -122,7 +126,8 @@ pub fn run_peers<
         move || -> (Passes<W::Ask>, X)
             requires lock { ArePassesOn board.now registry.now other }
             requires can_run { P.can_run peer.now number other }
-            requires gives_back { (n : ℕ) (p q : PassesOf W.Ask) (x : X) → ArePassesOn board.now registry.now p → P.gives peer.now n p q x → ArePassesOn board.now registry.now q × KeepNumbers p q }
+            requires gives_back { (n : ℕ) (p q : PassesOf W.Ask) (x : X) → ArePassesOn board.now registry.now p
+                → P.gives peer.now n p q x → ArePassesOn board.now registry.now q × KeepNumbers p q }
             ensures lock { ArePassesOn board.entry.now registry.entry.now result.0 }
             ensures numbers { KeepNumbers other result.0 }
             ensures gives { P.gives peer.entry.now number other result.0 result.1 }
@@ -132,10 +137,13 @@ pub fn run_peers<
             requires shared { IsSync R.row }
             requires next { ((knows own.board).next ≤ next) × ((knows own.registry).next ≤ next) }
             requires room { next + rest + 1 < 2 ^ 32 }
-            requires peer { (n : ℕ) (p : PassesOf W.Ask) → ArePassesOn board.now registry.now p → AreFreshFrom n own p → P.can_run peer.now n p }
-            requires gives_back { (n : ℕ) (p q : PassesOf W.Ask) (x : X) → ArePassesOn board.now registry.now p → P.gives peer.now n p q x → ArePassesOn board.now registry.now q × KeepNumbers p q }
+            requires peer { (n : ℕ) (p : PassesOf W.Ask) → ArePassesOn board.now registry.now p → AreFreshFrom n own p
+                → P.can_run peer.now n p }
+            requires gives_back { (n : ℕ) (p q : PassesOf W.Ask) (x : X) → ArePassesOn board.now registry.now p
+                → P.gives peer.now n p q x → ArePassesOn board.now registry.now q × KeepNumbers p q }
             ensures lock { ArePassesOn board.entry.now registry.entry.now result.0 }
-            ensures ran { (rs : List (PassesOf W.Ask × X)) × IfOk result.1 (λ outs. AreOuts outs.items rs) × RanBeside (P.gives peer.entry.now) next rest own rs result.0 }
+            ensures ran { (rs : List (PassesOf W.Ask × X)) × IfOk result.1 (λ outs. AreOuts outs.items rs)
+                × RanBeside (P.gives peer.entry.now) next rest own rs result.0 }
         { run_peers(rt, alloc, board, registry, own, next, rest, peer) },
     );
     (

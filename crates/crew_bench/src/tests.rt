@@ -5,48 +5,15 @@ use crate::callers::callers_see_their_own;
 use crate::calls::crew_of;
 use crate::sharer::shared_number;
 use alg_registry::Ended;
-use crew::{Gate, NoGate};
-use std::sync::atomic::{AtomicU64, Ordering};
+use crew::{BarrierGate, NoGate};
 use std::test::Fail;
-use std::thread;
-
-/// Holds those that are inside a job until so many have been inside one.
-#[derive(Drop)]
-struct Meet {
-    many: u64,
-    inside: AtomicU64,
-    gave_up: AtomicU64,
-}
-
-impl Meet {
-    fn of(many: u64) -> Meet {
-        Meet {
-            many,
-            inside: AtomicU64::new(0),
-            gave_up: AtomicU64::new(0),
-        }
-    }
-}
-
-impl Gate for Meet {
-    fn inside(&self) {
-        self.inside.fetch_add(1, Ordering::SeqCst);
-        for _ in 0..10_000_000u64 {
-            if self.inside.load(Ordering::SeqCst) >= self.many {
-                return;
-            }
-            thread::yield_now();
-        }
-        self.gave_up.fetch_add(1, Ordering::SeqCst);
-    }
-}
 
 #[test]
 fn two_are_inside_at_once(rt: HostRuntime) -> Result<(), Fail> {
-    let gate = Meet::of(2);
+    let gate = BarrierGate::of(2);
     assert!(rt; crew_of(&rt, rt.alloc(), 2, 2, 10, &gate).is_some());
-    assert_eq!(rt; gate.gave_up.load(Ordering::SeqCst), 0);
-    assert_eq!(rt; gate.inside.load(Ordering::SeqCst), 2);
+    assert_eq!(rt; gate.gave_up(), 0);
+    assert_eq!(rt; gate.entered(), 2);
     Ok(())
 }
 
@@ -83,10 +50,10 @@ fn eight_callers_see_their_own_order(rt: HostRuntime) -> Result<(), Fail> {
 /// The gate holds each caller inside a job of its own until all eight drain.
 #[test]
 fn eight_callers_drain_at_once(rt: HostRuntime) -> Result<(), Fail> {
-    let gate = Meet::of(8);
+    let gate = BarrierGate::of(8);
     let seen = callers_see_their_own(&rt, rt.alloc(), 8, 50, &gate);
     assert_eq!(rt; seen, Some(true));
-    assert_eq!(rt; gate.gave_up.load(Ordering::SeqCst), 0);
+    assert_eq!(rt; gate.gave_up(), 0);
     Ok(())
 }
 

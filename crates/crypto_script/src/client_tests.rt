@@ -3,13 +3,13 @@
 use crate::limit_tests::{DONE, held_bytes, push_each};
 use crate::stream_tests::{Fault, run_slow};
 use crate::tests::{
-    ANSWER, LINE, Meet, check, decimal, expect_line, joined, printed, printed_past, push,
-    push_line, string_of,
+    ANSWER, LINE, check, decimal, expect_line, joined, printed, printed_past, push, push_line,
+    string_of,
 };
+use crew::BarrierGate;
 use std::alloc::Global;
 use std::process::Abort;
 use std::sync::Wait;
-use std::sync::atomic::Ordering;
 use std::thread::Threads;
 
 const CREWS: [&str; 3] = ["--workers 0", "--workers 1", "--workers 8"];
@@ -302,13 +302,13 @@ drain p
 
 #[test]
 fn two_clients_are_inside_jobs_at_once(rt: HostRuntime) {
-    let gate = Meet::new();
+    let gate = BarrierGate::of(2);
     let script = joined(&rt, rt.alloc(), &[PAD_OF_ITS_OWN, PAD_OF_ITS_OWN]);
     let line = "--workers 0 --clients 2";
     let (ended, _) = printed_past(&rt, rt.alloc(), line, &gate, script.as_str());
     assert!(rt; ended.status == 0);
-    assert!(rt; gate.gave_up.load(Ordering::SeqCst) == 0);
-    assert!(rt; gate.inside.load(Ordering::SeqCst) == 2);
+    assert!(rt; gate.gave_up() == 0);
+    assert!(rt; gate.entered() == 2);
 }
 
 // The first script's pipeline takes as many bytes as are accepted of one script.

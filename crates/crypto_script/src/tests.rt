@@ -2,13 +2,12 @@
 
 use crate::program::{Outcome, run};
 use board::{BoardEntry, BoardLog};
-use crew::{Gate, NoGate};
+use crew::{BarrierGate, Gate, NoGate};
 use kc_base::{Bytes, Sink, Source, SureSink, SureSource};
 use std::alloc::Global;
 use std::process::Abort;
 use std::sync::Wait;
-use std::sync::atomic::{AtomicU64, Ordering};
-use std::thread::{self, Threads};
+use std::thread::Threads;
 use transforms::Ask;
 
 /// Words that ask for workers, beside whose numbers scripts are run whose text no number of them changes.
@@ -36,8 +35,8 @@ pub const TEXT: &str = "\
 3 malformed
 ";
 
-// A script that uses a plain transform, a pad and a queue, and its text. The bytes are those of SP 800-38A, F.2.1, of GCM's
-// second test case, and of python's `hmac`.
+// A script that uses a plain transform, a pad and a queue, and its text. The bytes are those of SP 800-38A, F.2.1, of
+// GCM's second test case, and of python's `hmac`.
 pub const MIXED_SCRIPT: &str = "\
 alloc c cbc(aes)
 key c 2b7e151628aed2a6abf7158809cf4f3c
@@ -254,8 +253,8 @@ pub fn expect<R: Abort + Threads + Wait + Sync>(
     }
 }
 
-/// A row of a table: its script, the status of the script's run, and its text. The row's first line says what it shows, and the status
-/// stands between the two, behind an equals sign.
+/// A row of a table: its script, the status of the script's run, and its text. The row's first line says what it shows,
+/// and the status stands between the two, behind an equals sign.
 #[derive(Clone, Copy)]
 pub struct Row {
     pub script: &'static str,
@@ -335,38 +334,6 @@ fn words_are_refused(rt: HostRuntime) {
     }
 }
 
-/// Holds the first that is inside a job until another is inside one too.
-#[derive(Drop)]
-pub struct Meet {
-    /// How many have been inside.
-    pub inside: AtomicU64,
-    /// How many of them went on alone.
-    pub gave_up: AtomicU64,
-}
-
-impl Meet {
-    /// Nobody has been inside.
-    pub fn new() -> Meet {
-        Meet {
-            inside: AtomicU64::new(0),
-            gave_up: AtomicU64::new(0),
-        }
-    }
-}
-
-impl Gate for Meet {
-    fn inside(&self) {
-        self.inside.fetch_add(1, Ordering::SeqCst);
-        for _ in 0..10_000_000u64 {
-            if self.inside.load(Ordering::SeqCst) >= 2 {
-                return;
-            }
-            thread::yield_now();
-        }
-        self.gave_up.fetch_add(1, Ordering::SeqCst);
-    }
-}
-
 const TWO_JOBS: &str = "\
 alloc p pcrypt(gcm(aes))
 key p 00000000000000000000000000000000
@@ -377,9 +344,9 @@ drain p
 
 #[test]
 fn two_are_inside_jobs_at_once(rt: HostRuntime) {
-    let gate = Meet::new();
+    let gate = BarrierGate::of(2);
     let (ended, _) = printed_past(&rt, rt.alloc(), "--workers 2", &gate, TWO_JOBS);
     assert!(rt; ended.status == 0);
-    assert!(rt; gate.gave_up.load(Ordering::SeqCst) == 0);
-    assert!(rt; gate.inside.load(Ordering::SeqCst) == 2);
+    assert!(rt; gate.gave_up() == 0);
+    assert!(rt; gate.entered() == 2);
 }

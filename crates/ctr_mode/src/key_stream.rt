@@ -155,7 +155,8 @@ fn xor_whole(text: &mut [u8], block: &[u8; 16])
 /// Xors eight blocks into a text of as many bytes.
 fn xor_eight(text: &mut [u8], blocks: &[[u8; 16]; 8])
     requires { length text.old ≡ 128 }
-    ensures { (k : ℕ) → k < 128 → slice_index text.new k ≡ bit_xor (slice_index text.old k) (slice_index (slice_index_or blocks.now (k / 16) []) (k % 16)) }
+    ensures { (k : ℕ) → k < 128 → slice_index text.new k
+        ≡ bit_xor (slice_index text.old k) (slice_index (slice_index_or blocks.now (k / 16) []) (k % 16)) }
 {
     for j in 0..8usize {
         xor_whole(&mut text[16 * j..16 * j + 16], &blocks[j]);

@@ -1,7 +1,6 @@
 -- The calls of a caller on the registry stay as its history grows.
-use Rattle.std.proofs.Common.{◌≡◌, ℕ, zero, suc, Bool, true, false, List, [], ◌∷◌, ◌++◌, Option, Some, None, Result, Ok, Err, refl, sym, ap, subst, ◌∙◌, append_assoc, append-nil}
+use Rattle.std.proofs.Common.{◌≡◌, ℕ, Bool, true, false, List, [], ◌∷◌, ◌++◌, Option, Some, None, Result, Ok, Err, refl, sym, ap, ◌∙◌, append_assoc, append-nil}
 use Rattle.std.specs.Prelude.{◌==◌, if◌then◌else◌, filter, slice_get}
-use Rattle.std.specs.List.{cons_option}
 use Rattle.kc_base.specs.declared.error_numbers.Errno.{Errno}
 use Rattle.alg_registry.specs.declared.spec.Spec.{Spec}
 use Rattle.alg_registry.specs.declared.entry.Ended.{Ended}
@@ -9,38 +8,19 @@ use Rattle.alg_registry.specs.declared.entry.Looked.{Looked}
 use Rattle.alg_registry.specs.declared.entry.Looked.TheVariants as look
 use Rattle.alg_registry.specs.declared.entry.RegEntry.{RegEntry}
 use Rattle.alg_registry.specs.declared.entry.RegEntry.TheVariants as entry
-use Rattle.alg_registry.specs.Rows.{registered, registered_by}
+use Rattle.alg_registry.specs.Rows.{registered}
 use Rattle.alg_registry.specs.Legal.{ended_as}
 use Rattle.alg_registry.specs.Made.{outcome_of}
-use Rattle.alg_registry.proofs.Stack.{ended-stays}
-use Rattle.alg_registry.proofs.Steps.{registered-push}
-use Rattle.templates.specs.Looking.{Found, found_in, found_as, entry_found}
-use Rattle.templates.specs.Looking.{is_asked}
+use Rattle.alg_registry.proofs.Histories.{ended_more, origin_more}
+use Rattle.templates.specs.LookResults.{Found, found_in, found_as, entry_found}
+use Rattle.templates.specs.LookResults.{is_asked}
 use Rattle.dialogues.specs.RegistryCalls.{RegCall, Looks, reg_calls, reg_calls_from, reg_call_of, prepend, AllSettled}
-
--- what was registered stays
-pub get-front : {A : Type 0} (xs ys : List A) (n : ℕ) (x : A) → slice_get xs n ≡ Some x → slice_get (xs ++ ys) n ≡ Some x
-get-front [] ys n x e = absurd cc
-get-front (y ∷ xs) ys zero x e = e
-get-front (y ∷ xs) ys (suc n) x e = get-front xs ys n x e
-
-pub registered-stays : (h more : List RegEntry) (id : ℕ) (spec : Spec) → slice_get (registered h) id ≡ Some spec → slice_get (registered (h ++ more)) id ≡ Some spec
-registered-stays h [] id spec e = subst (λ g. slice_get (registered g) id ≡ Some spec) (sym (append-nil h)) e
-registered-stays h (x ∷ more) id spec e =
-    let next : slice_get (registered (h ++ x ∷ [])) id ≡ Some spec =
-    ap (λ specs. slice_get specs id) (registered-push h x) ∙ get-front (registered h) (cons_option (registered_by x) []) id spec e in
-    subst (λ g. slice_get (registered g) id ≡ Some spec) (append_assoc h (x ∷ []) more) (registered-stays (h ++ x ∷ []) more id spec next)
-
--- and how a larval ended
-pub end-stays : (h more : List RegEntry) (n : ℕ) (e : Ended) → ended_as h n ≡ Some e → ended_as (h ++ more) n ≡ Some e
-end-stays h [] n e p = subst (λ g. ended_as g n ≡ Some e) (sym (append-nil h)) p
-end-stays h (x ∷ more) n e p = subst (λ g. ended_as g n ≡ Some e) (append_assoc h (x ∷ []) more) (end-stays (h ++ x ∷ []) more n e (ended-stays h x n e p))
 
 -- so what a look came to stays
 entry-stays : (h more : List RegEntry) (id : ℕ) (o : Option Spec) (x : Found) → slice_get (registered h) id ≡ o → entry_found id o ≡ Some x
     → entry_found id (slice_get (registered (h ++ more)) id) ≡ Some x
 entry-stays h more id None x at e = absurd cc
-entry-stays h more id (Some spec) x at e = ap (entry_found id) (registered-stays h more id spec at) ∙ e
+entry-stays h more id (Some spec) x at e = ap (entry_found id) (origin_more h more id spec at) ∙ e
 
 outcome-stays : (h more : List RegEntry) (o : Option (Result ℕ Errno)) (x : Found) → found_as h o ≡ Some x → found_as (h ++ more) o ≡ Some x
 outcome-stays h more None x e = absurd cc
@@ -51,7 +31,7 @@ larval-stays : (h more : List RegEntry) (n : ℕ) (o : Option Ended) (x : Found)
     → found_as (h ++ more) (outcome_of (ended_as (h ++ more) n)) ≡ Some x
 larval-stays h more n None x at e = absurd cc
 larval-stays h more n (Some end) x at e =
-    ap (λ o. found_as (h ++ more) (outcome_of o)) (end-stays h more n end at) ∙ outcome-stays h more (outcome_of (Some end)) x e
+    ap (λ o. found_as (h ++ more) (outcome_of o)) (ended_more h more n end at) ∙ outcome-stays h more (outcome_of (Some end)) x e
 
 pub found_in-stays : (h more : List RegEntry) (answer : Looked) (x : Found) → found_in h answer ≡ Some x → found_in (h ++ more) answer ≡ Some x
 found_in-stays h more (look.Found id) x e = outcome-stays h more (Some (Ok id)) x e

@@ -9,7 +9,7 @@ ghost use Rattle.dialogues.specs.BoardCalls.{BoardCall};
 ghost use Rattle.dialogues.specs.Dialogues.{Dialogue, followed};
 ghost use Rattle.dialogues.specs.FirstCalls.{BeginsByNone, BeginsByTurn, BeginsSaying, BeginsAsking, BeginsPosting, BeginsLooking, BeginsLookingAll, BeginsInFirst, BeginsInLater, BeginsInLines, NoneFurther, CallsThenFurther, FurtherStay};
 ghost use Rattle.dialogues.specs.GoingOn.{RegisteredStays, FoundStays, RegistryCallsGoOn, RegistryCallsJoin, RegistryUnasked, BoardCallsGoOn, BoardCallsJoin, BoardUncalled, NoCall, OneCall, OneLook, NothingThenCalls, CallsThenCalls, CallsInTurnAre, InTurnByAny, InTurnByOne, InTurnByMore, LooksAtOnce, NothingThenCallsBy, CallsThenCallsBy, CallsByAre};
-ghost use Rattle.dialogues.specs.Leading.{LeadsNowhere, LeadsOn, LeadsToEnd};
+ghost use Rattle.dialogues.specs.Continuations.{LeadsNowhere, LeadsOn, LeadsToEnd};
 ghost use Rattle.dialogues.specs.References.{ReferencesFollow};
 ghost use Rattle.dialogues.specs.RegistryCalls.{RegCall};
 ghost use Rattle.dialogues.specs.Texts.{IsText};
@@ -18,15 +18,18 @@ ghost use Rattle.dialogues.specs.ScriptState.{ScriptState};
 
 /// A script has one text over two histories.
 pub fn one_text()
-    ensures { (workers : ℕ) (script_state : ScriptState) (caller : ℕ) (lines : List Line) (r : List RegEntry) (b : List (BoardEntry Ask)) (x y : List ℕ)
+    ensures { (workers : ℕ) (script_state : ScriptState) (caller : ℕ) (lines : List Line)
+        (r : List RegEntry) (b : List (BoardEntry Ask)) (x y : List ℕ)
         → IsText workers script_state caller lines r b x → IsText workers script_state caller lines r b y → x ≡ y }
 {}
 
 /// Where one dialogue follows another, its turn follows the other's.
 pub fn turns_follow()
-    ensures { (first : Dialogue) (later : ScriptState → Dialogue) (turn : Transcript) (script_state : ScriptState) (r : List RegCall) (b : List BoardCall)
+    ensures { (first : Dialogue) (later : ScriptState → Dialogue) (turn : Transcript) (script_state : ScriptState)
+        (r : List RegCall) (b : List BoardCall)
         → IsTranscript first turn → turn.after ≡ Some script_state
-        → transcript_of (followed first later) (turn.registry ++ r) (turn.board ++ b) ≡ joined turn (transcript_of (later script_state) r b) }
+        → transcript_of (followed first later) (turn.registry ++ r) (turn.board ++ b)
+        ≡ joined turn (transcript_of (later script_state) r b) }
 {}
 
 /// A caller's calls on the registry stay as its history goes on, and only what it asked adds to them.

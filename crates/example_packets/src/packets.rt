@@ -112,7 +112,9 @@ pub fn open_esp(
     tag: &[u8; 16],
 ) -> Result<(), Errno>
     requires { length text.old < 2 ^ 32 }
-    ensures { Opens result (rfc4106_open (seal mode.now.0.bytes) mode.now.1 iv.now (header.now ++ iv.now) text.old tag.now) text.old text.new }
+    ensures { Opens result
+        (rfc4106_open (seal mode.now.0.bytes) mode.now.1 iv.now (header.now ++ iv.now) text.old tag.now)
+        text.old text.new }
 {
     mode.unseal(iv, &associated_of(header, iv), text, tag)
 }

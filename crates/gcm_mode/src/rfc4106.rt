@@ -76,7 +76,8 @@ impl<C: BlockCipher + Drop, H: GhashKey + Drop> Rfc4106<C, H> {
             MatchResult result
             (λ _. given ≡ Some (text.new, tag.new))
             (λ e. (e ≡ Errno.EINVAL) × (given ≡ None) × (text.new ≡ text.old) × (tag.new ≡ tag.old)) }
-        ensures opens_whole { OnOk result (rfc4106_open (C.sealed self.now.0) self.now.1 iv.now associated.now text.new tag.new ≡ bytes text.old) }
+        ensures opens_whole { OnOk result
+            (rfc4106_open (C.sealed self.now.0) self.now.1 iv.now associated.now text.new tag.new ≡ bytes text.old) }
         ensures opens { OnOk result ((n : ℕ) → n ≤ 16
             → rfc4106_open (C.sealed self.now.0) self.now.1 iv.now associated.now text.new (take n tag.new) ≡ bytes text.old) }
     {
@@ -147,7 +148,9 @@ impl<C: BlockCipher + Drop, H: GhashKey + Drop> Rfc4106<C, H> {
     ) -> Result<(), Errno>
         requires text_short { length text.old.text < 2 ^ 32 }
         requires tag_taken { IsTrue (rfc4106_takes_tag (length tag.now)) }
-        ensures text { Opens result (rfc4106_open (C.sealed self.now.0) self.now.1 iv.now associated.now text.old.text tag.now) text.old.text text.new.text }
+        ensures text { Opens result
+            (rfc4106_open (C.sealed self.now.0) self.now.1 iv.now associated.now text.old.text tag.now)
+            text.old.text text.new.text }
         ensures sizes { text.new.sizes ≡ text.old.sizes }
     {
         if !is_taken(associated) {

@@ -160,7 +160,9 @@ impl<C: BlockCipher + Drop, H: GhashKey + Drop> Gcm<C, H> {
         requires associated_short { length associated.now < 2 ^ 32 }
         requires text_short { length text.old.text < 2 ^ 32 }
         requires tag_taken { IsTrue (gcm_takes_tag (length tag.now)) }
-        ensures text { Opens result (or_bad_message (gcm_open (C.sealed self.now) iv.now associated.now text.old.text tag.now)) text.old.text text.new.text }
+        ensures text { Opens result
+            (or_bad_message (gcm_open (C.sealed self.now) iv.now associated.now text.old.text tag.now))
+            text.old.text text.new.text }
         ensures sizes { text.new.sizes ≡ text.old.sizes }
     {
         let full = self.tag_of_segs(iv, associated, text);

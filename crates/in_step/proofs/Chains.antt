@@ -1,6 +1,6 @@
 -- A text that is sealed block by block, and a chain that goes on behind its first blocks.
 use Rattle.in_step.specs.Texts.{text_in, blocks_of, Sealed}
-use Rattle.std.proofs.Common.{◌≡◌, ◌≢◌, Some, ◌%◌, get_or, ℕ, zero, suc, ◌+◌, ◌-◌, ◌*◌, ◌/◌, ◌<◌, ◌≤◌, sym, ap, ap₂, ◌∙◌, arith, List, [], ◌++◌, length, map, take, drop, refl, add-one, add-suc, add-zero, length-append, length-drop, length-take, set, slice_index_or}
+use Rattle.std.proofs.Common.{◌≡◌, ◌≢◌, Some, ◌%◌, get_or, ℕ, zero, suc, ◌+◌, ◌*◌, ◌/◌, ◌<◌, ◌≤◌, sym, ap, ap₂, ◌∙◌, arith, List, [], ◌++◌, length, map, take, drop, refl, add-one, add-suc, add-zero, length-append, length-drop, length-take, set, slice_index_or}
 use Rattle.std.proofs.Math.Seq.{take-append_seam, drop-append_seam}
 use Rattle.std.proofs.lemmas.List.{drop-drop, get_or-map, get_or-set_other, get_or-set_same, length-map, map-set}
 use Rattle.std_defs.specs.Blocks.{xor_blocks, text_block, joined}

@@ -1,5 +1,5 @@
 -- A block of the padding behind zeros in the place of a message.
-use Rattle.std.proofs.Common.{◌≡◌, ◌≢◌, ℕ, suc, ◌+◌, ◌-◌, ◌*◌, ◌/◌, ◌%◌, ◌^◌, ◌<◌, ◌≤◌, min, List, [], ◌∷◌, ◌++◌, length, take, drop, replicate, refl, sym, ap, ap₂, ◌∙◌, arith, length-append, inl, inr, slice_index, slice_set, take-append-drop}
+use Rattle.std.proofs.Common.{◌≡◌, ◌≢◌, ℕ, suc, ◌+◌, ◌-◌, ◌*◌, ◌%◌, ◌^◌, ◌<◌, ◌≤◌, min, List, ◌++◌, length, take, drop, replicate, sym, ap, ap₂, ◌∙◌, arith, length-append, inl, inr, slice_index, slice_set, take-append-drop}
 use Rattle.std.proofs.lemmas.Bool.{cases_lt}
 use Rattle.std.proofs.lemmas.List.{drop-drop, ext_get_or, get_or-append-add, get_or-drop, get_or-set_other, get_or-take, get_or_append_left, length-drop, length-replicate, length-take}
 use Rattle.std.proofs.lemmas.Simd.{get_or-replicate}
@@ -33,9 +33,6 @@ byte_before len n i lt =
 byte_behind : (len n j : ℕ) → slice_index (padded len n) (len + j) ≡ slice_index (padding n) j
 byte_behind len n j =
     ap (λ (l : ℕ). slice_index (padded len n) (l + j)) (sym (length-replicate {A = ℕ} len 0)) ∙ get_or-append-add (replicate {A = ℕ} len 0) (padding n) j 0
-
-mark_of : (n : ℕ) → slice_index (padding n) 0 ≡ 0x80
-mark_of n = refl
 
 zero_of : (n j : ℕ) → j < gap n → slice_index (padding n) (suc j) ≡ 0
 zero_of n j lt =

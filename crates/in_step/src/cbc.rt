@@ -9,7 +9,8 @@ use crate::text::{Text, bytes_at, write_at};
 use aes_block::{BlockCipher, xor_block};
 use cbc_mode::Cbc;
 
-/// Fewer chains than these are sealed sooner one by one: eight blocks side by side take as long as so many by themselves.
+/// Fewer chains than these are sealed sooner one by one: eight blocks side by side take as long as so many by
+/// themselves.
 const LEAST_CHAINS: usize = 4;
 
 /// Block `i` of the text.
@@ -86,7 +87,8 @@ fn add_blocks<T: Text>(chains: &mut [[u8; 16]; 8], texts: &[T], lengths: &[usize
 fn put_blocks<T: Text>(texts: &mut [T], chains: &[[u8; 16]; 8], lengths: &[usize; 8], i: usize)
     requires { AreWhole T.bytes_of lengths.now texts.old }
     ensures put { (n : ℕ) → n < 8 → i < slice_index lengths.now n / 16 → text_in T.bytes_of texts.new n
-        ≡ take (16 * i) (text_in T.bytes_of texts.old n) ++ slice_index_or chains.now n [] ++ drop (16 * i + 16) (text_in T.bytes_of texts.old n) }
+        ≡ take (16 * i) (text_in T.bytes_of texts.old n) ++ slice_index_or chains.now n []
+        ++ drop (16 * i + 16) (text_in T.bytes_of texts.old n) }
     ensures kept { (n : ℕ) → n < 8 → slice_index lengths.now n / 16 ≤ i → text_in T.bytes_of texts.new n ≡ text_in T.bytes_of texts.old n }
     ensures same { (n : ℕ) → length (text_in T.bytes_of texts.new n) ≡ length (text_in T.bytes_of texts.old n) }
     ensures count { length texts.new ≡ length texts.old }
@@ -96,8 +98,8 @@ fn put_blocks<T: Text>(texts: &mut [T], chains: &[[u8; 16]; 8], lengths: &[usize
     }
 }
 
-/// Seals the first `steps` blocks of each text, or all where there are fewer. The chains behind them, which mean nothing where all
-/// are sealed.
+/// Seals the first `steps` blocks of each text, or all where there are fewer. The chains behind them, which mean
+/// nothing where all are sealed.
 fn seal_steps<C: BlockCipher, T: Text>(
     cipher: &C,
     ivs: &[[u8; 16]; 8],
@@ -165,8 +167,9 @@ fn seal_rests<C: BlockCipher, T: Text>(
     }
 }
 
-/// Seals the front of each of at most eight texts in place, under an IV of its own: the first `lengths[n]` bytes of text `n`, which are
-/// whole blocks. What stands behind them stays as it is. Chains that go on alone are sealed one by one. No memory is taken.
+/// Seals the front of each of at most eight texts in place, under an IV of its own: the first `lengths[n]` bytes of
+/// text `n`, which are whole blocks. What stands behind them stays as it is. Chains that go on alone are sealed one by
+/// one. No memory is taken.
 pub fn seal_cbc_in_step<C: BlockCipher + Drop, T: Text>(
     mode: &Cbc<C>,
     ivs: &[[u8; 16]; 8],

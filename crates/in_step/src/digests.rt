@@ -186,7 +186,8 @@ fn hash_rest(
     requires edge { taken % 64 ≡ 0 }
     requires order { from ≤ to }
     requires within { to ≤ (length first.now + length second.now + 72) / 64 }
-    ensures { (h : List ℕ) → value ≡ hash_after h (behind taken first.now second.now) from → result ≡ hash_after h (behind taken first.now second.now) to }
+    ensures { (h : List ℕ) → value ≡ hash_after h (behind taken first.now second.now) from
+        → result ≡ hash_after h (behind taken first.now second.now) to }
 {
     let mut value = value;
     let mut block = [0u8; 64];
@@ -207,7 +208,8 @@ fn digests_behind(
 ) -> [[u8; 32]; 8]
     requires short { AreShort firsts.now seconds.now }
     requires edge { taken % 64 ≡ 0 }
-    ensures { (n : ℕ) → n < 8 → slice_index_or result n [] ≡ digest_bytes (hash_after start.now (behind taken (piece firsts.now n) (piece seconds.now n))
+    ensures { (n : ℕ) → n < 8 → slice_index_or result n []
+        ≡ digest_bytes (hash_after start.now (behind taken (piece firsts.now n) (piece seconds.now n))
         ((length (piece firsts.now n) + length (piece seconds.now n) + 72) / 64)) 8 }
 {
     let counts = counts_of(firsts, seconds);
@@ -222,8 +224,8 @@ fn digests_behind(
     digests
 }
 
-/// The digests of eight messages: of what the hasher was given, and behind it the lane's two pieces. It was given whole blocks. The
-/// pieces of a lane have fewer than 2^63 bytes together. No memory is taken.
+/// The digests of eight messages: of what the hasher was given, and behind it the lane's two pieces. It was given whole
+/// blocks. The pieces of a lane have fewer than 2^63 bytes together. No memory is taken.
 pub fn digests_in_step(hasher: &Sha256, firsts: &[&[u8]; 8], seconds: &[&[u8]; 8]) -> [[u8; 32]; 8]
     requires short { AreShort firsts.now seconds.now }
     ensures { (m : List ℕ) (n : ℕ) → HasAbsorbed hasher.now m → length m % 64 ≡ 0 → n < 8

@@ -39,9 +39,9 @@ fn fronts<'a, T: Text>(texts: &'a [T], lengths: &[usize; 8]) -> [&'a [u8]; 8]
     ]
 }
 
-/// Seals the front of each of at most eight texts in place, under an IV of its own: the first `lengths[n]` bytes of text `n`, which are
-/// whole blocks. What stands behind them stays as it is. The whole MACs of the associated bytes and behind them the ciphertext. Those have
-/// fewer than 2^63 bytes together. No memory is taken.
+/// Seals the front of each of at most eight texts in place, under an IV of its own: the first `lengths[n]` bytes of
+/// text `n`, which are whole blocks. What stands behind them stays as it is. The whole MACs of the associated bytes and
+/// behind them the ciphertext. Those have fewer than 2^63 bytes together. No memory is taken.
 pub fn seal_authenc_in_step<C: BlockCipher + Drop, T: Text>(
     mac: &Mac,
     mode: &Cbc<C>,
@@ -52,7 +52,8 @@ pub fn seal_authenc_in_step<C: BlockCipher + Drop, T: Text>(
 ) -> [[u8; 32]; 8]
     requires { ArePackets T.bytes_of lengths.now aads.now texts.old }
     ensures sealed { (n : ℕ) → n < 8
-        → authenc_seal mac.now (cbc_seal (C.sealed mode.now) (block_in ivs.now n)) (piece aads.now n) (front_in T.bytes_of lengths.now texts.old n)
+        → authenc_seal mac.now (cbc_seal (C.sealed mode.now) (block_in ivs.now n)) (piece aads.now n)
+        (front_in T.bytes_of lengths.now texts.old n)
         ≡ Some (front_in T.bytes_of lengths.now texts.new n, block_in result n) }
     ensures rest { (n : ℕ) → n < 8 → rest_in T.bytes_of lengths.now texts.new n ≡ rest_in T.bytes_of lengths.now texts.old n }
     ensures length { (n : ℕ) → n < 8 → length (text_in T.bytes_of texts.new n) ≡ length (text_in T.bytes_of texts.old n) }

@@ -1,14 +1,18 @@
 -- What stands in a lane.
-use Rattle.std.specs.Prelude.{◌≡◌, ⊤, ℕ, Option, Some, None, List, [], length}
+use Rattle.std.specs.Prelude.{◌≡◌, ◌<◌, ⊤, ℕ, Option, Some, None, MatchOption, List, [], length, slice_index_or}
 use Rattle.std.specs.Arc.{arc_value}
 use Rattle.std.specs.Global.{Global, Vec}
+use Rattle.std.specs.Option.{option_map}
 use Rattle.std.specs.declared.sync.Arc.{Arc}
 use Rattle.in_step.specs.Texts as in_step
 use Rattle.std_defs.specs.Value.{Value}
 use Rattle.std_defs.specs.Value.Value.{bytes}
+use Rattle.templates.specs.declared.driver_plans.Plan.{Plan}
 use Rattle.transforms.specs.AskValue.{ask_room, ask_value, IsFit}
+use Rattle.transforms.specs.Finish.{finished_value}
 use Rattle.transforms.specs.declared.ask.Ask.{Ask}
 use Rattle.transforms.specs.declared.job.Job.{Job}
+use Rattle.transforms.specs.declared.request.Finished.{Finished}
 use Rattle.transforms.specs.declared.request.Request.{Request}
 use Rattle.jobs_in_step.specs.Steps.{Fits}
 
@@ -34,6 +38,15 @@ aad_in (Some a) = (arc_value a).request.aad
 -- the value of a lane's job
 abbrev pub job_value : Job → Value
 job_value j = ask_value (arc_value j.ask)
+
+-- each lane's answer is the value of its job, and there is one where there is a job
+abbrev pub AreValues : List (Option Finished) → List (Option Job) → Type 0
+AreValues answers jobs =
+    (n : ℕ) → n < 8 → option_map finished_value (slice_index_or answers n None) ≡ option_map job_value (slice_index_or jobs n None)
+
+-- the lane's job, where there is one, is a sealing under this key, and fits
+abbrev pub FitsKey : Plan × List ℕ → Option Job → Type 0
+FitsKey key job = MatchOption job ⊤ (λ j. (arc_value (arc_value j.ask).keyed ≡ key) × Fits (arc_value j.ask))
 
 -- the lane's job taken apart: its ask, and what its buffer begins with
 abbrev pub IsPart : Option Job → Asked → List ℕ → Type 0

@@ -1,5 +1,5 @@
 -- What of a key seals eight texts in step, and the sealings that it takes.
-use Rattle.std.specs.Prelude.{◌≡◌, ◌≤◌, ◌<◌, ◌+◌, ◌^◌, ◌%◌, ◌==◌, nat_le, Bool, true, ℕ, ◌++◌, List, length, replicate, slice_index}
+use Rattle.std.specs.Prelude.{◌≡◌, ◌≤◌, ◌<◌, ◌+◌, ◌^◌, ◌%◌, ◌==◌, Bool, true, ℕ, ◌++◌, List, length, take, drop, replicate, slice_index}
 use Rattle.std.specs.Borrow.{Bor}
 use Rattle.std.specs.Option.{option_map}
 use Rattle.in_step.specs.Pieces.{piece}
@@ -8,7 +8,9 @@ use Rattle.std_defs.specs.Aes.{seal}
 use Rattle.std_defs.specs.Authenc.{authenc_seal}
 use Rattle.std_defs.specs.Modes.{cbc_seal}
 use Rattle.std_defs.specs.Value.{Value, or_invalid}
+use Rattle.std_defs.specs.Value.Value.{bytes}
 use Rattle.transforms.specs.Forms.{key_of}
+use Rattle.transforms.specs.InPlace.{sealing}
 use Rattle.transforms.specs.Tagged.{tagged}
 use Rattle.transforms.specs.declared.any_aes.AnyAes.{AnyAes}
 use Rattle.transforms.specs.declared.ask.Ask.{Ask}
@@ -57,9 +59,25 @@ abbrev pub takes_associated : StepKey → ℕ → Bool
 takes_associated (Cbc mode) n = n == 0
 takes_associated (Authenc mac mode) n = true
 
--- each lane's length is one of whole blocks within its text, and of fewer than 2^63 bytes with the associated bytes; a tag fits behind it
+-- each lane's length is one of whole blocks within its text, and of fewer than 2^63 bytes with the associated bytes; a
+-- tag fits behind it
 abbrev pub AreFronts : {A : Type 0} → (A → List ℕ) → List ℕ → List (Bor (List ℕ)) → ℕ → List A → Type 0
 AreFronts {A} bytes_of lengths aads tag_size texts =
     (n : ℕ) → n < 8
     → (slice_index lengths n % 16 ≡ 0) × (slice_index lengths n ≤ length (lanes.text_in bytes_of texts n)) × (length (piece aads n) + slice_index lengths n < 2 ^ 63)
     × (n < length texts → slice_index lengths n + tag_size ≤ length (lanes.text_in bytes_of texts n))
+
+-- the front of each text, with its tag behind it, is what sealing it gives
+abbrev pub AreSealed : {A : Type 0} → (A → List ℕ) → (ℕ → Request → Value)
+    → List (List ℕ) → List (Bor (List ℕ)) → List ℕ → ℕ → List A → List A → Type 0
+AreSealed {A} bytes_of gives ivs aads lengths tag_size old new =
+    (n : ℕ) → n < 8 → n < length old
+    → bytes (take (slice_index lengths n + tag_size) (lanes.text_in bytes_of new n))
+    ≡ gives tag_size (sealing (lanes.block_in ivs n) (piece aads n) (lanes.front_in bytes_of lengths old n))
+
+-- what stands behind that is as it was
+abbrev pub KeepRests : {A : Type 0} → (A → List ℕ) → List ℕ → ℕ → List A → List A → Type 0
+KeepRests {A} bytes_of lengths tag_size old new =
+    (n : ℕ) → n < 8 → n < length old
+    → drop (slice_index lengths n + tag_size) (lanes.text_in bytes_of new n)
+    ≡ drop (slice_index lengths n + tag_size) (lanes.text_in bytes_of old n)

@@ -1,11 +1,8 @@
 //! The fronts of texts sealed where their caller has them, and a tag written behind each.
 
 ghost use Rattle.std.specs.Prelude.{◌≡◌, ◌≢◌, ◌+◌, ◌<◌, ◌≤◌, ◌++◌, ℕ, length, take, drop, slice_index};
-ghost use Rattle.std_defs.specs.Value.Value.{bytes};
-ghost use Rattle.in_step.specs.Pieces.{piece};
 ghost use Rattle.in_step.specs.Texts as lanes;
-ghost use Rattle.transforms.specs.InPlace.{sealing};
-ghost use Rattle.jobs_in_step.specs.Steps.{AreFronts, tag_room, cbc_gives, authenc_gives, sealed_by};
+ghost use Rattle.jobs_in_step.specs.Steps.{AreFronts, AreSealed, KeepRests, tag_room, cbc_gives, authenc_gives, sealed_by};
 
 use crate::keys::StepKey;
 use cbc_mode::Cbc;
@@ -18,7 +15,8 @@ fn put_tag_at<T: Text>(texts: &mut [T], n: usize, len: usize, tag: &[u8; 32], ta
     requires tag { tag_size ≤ 32 }
     requires room { n < length texts.old → len + tag_size ≤ length (lanes.text_in T.bytes_of texts.old n) }
     ensures put { n < length texts.old → lanes.text_in T.bytes_of texts.new n
-        ≡ take len (lanes.text_in T.bytes_of texts.old n) ++ take tag_size tag.now ++ drop (len + tag_size) (lanes.text_in T.bytes_of texts.old n) }
+        ≡ take len (lanes.text_in T.bytes_of texts.old n) ++ take tag_size tag.now
+        ++ drop (len + tag_size) (lanes.text_in T.bytes_of texts.old n) }
     ensures same { length (lanes.text_in T.bytes_of texts.new n) ≡ length (lanes.text_in T.bytes_of texts.old n) }
     ensures others { (k : ℕ) → k ≢ n → lanes.text_in T.bytes_of texts.new k ≡ lanes.text_in T.bytes_of texts.old k }
     ensures count { length texts.new ≡ length texts.old }
@@ -36,7 +34,8 @@ fn put_tags_at<T: Text>(
     tag_size: usize,
 )
     requires tag { tag_size ≤ 32 }
-    requires room { (n : ℕ) → n < 8 → n < length texts.old → slice_index lengths.now n + tag_size ≤ length (lanes.text_in T.bytes_of texts.old n) }
+    requires room { (n : ℕ) → n < 8 → n < length texts.old
+        → slice_index lengths.now n + tag_size ≤ length (lanes.text_in T.bytes_of texts.old n) }
     ensures put { (n : ℕ) → n < 8 → n < length texts.old → lanes.text_in T.bytes_of texts.new n
         ≡ lanes.front_in T.bytes_of lengths.now texts.old n ++ take tag_size (lanes.block_in tags.now n)
         ++ drop (slice_index lengths.now n + tag_size) (lanes.text_in T.bytes_of texts.old n) }
@@ -59,10 +58,8 @@ fn seal_plain_fronts<T: Text>(
 )
     requires fronts { AreFronts T.bytes_of lengths.now aads.now tag_size texts.old }
     requires tag { tag_size ≤ 0 }
-    ensures sealed { (n : ℕ) → n < 8 → n < length texts.old → bytes (take (slice_index lengths.now n + tag_size) (lanes.text_in T.bytes_of texts.new n))
-        ≡ cbc_gives mode.now tag_size (sealing (lanes.block_in ivs.now n) (piece aads.now n) (lanes.front_in T.bytes_of lengths.now texts.old n)) }
-    ensures rest { (n : ℕ) → n < 8 → n < length texts.old → drop (slice_index lengths.now n + tag_size) (lanes.text_in T.bytes_of texts.new n)
-        ≡ drop (slice_index lengths.now n + tag_size) (lanes.text_in T.bytes_of texts.old n) }
+    ensures sealed { AreSealed T.bytes_of (cbc_gives mode.now) ivs.now aads.now lengths.now tag_size texts.old texts.new }
+    ensures rest { KeepRests T.bytes_of lengths.now tag_size texts.old texts.new }
     ensures same { (n : ℕ) → n < 8 → length (lanes.text_in T.bytes_of texts.new n) ≡ length (lanes.text_in T.bytes_of texts.old n) }
     ensures count { length texts.new ≡ length texts.old }
 {
@@ -82,10 +79,8 @@ fn seal_tagged_fronts<T: Text>(
 )
     requires fronts { AreFronts T.bytes_of lengths.now aads.now tag_size texts.old }
     requires tag { tag_size ≤ 32 }
-    ensures sealed { (n : ℕ) → n < 8 → n < length texts.old → bytes (take (slice_index lengths.now n + tag_size) (lanes.text_in T.bytes_of texts.new n))
-        ≡ authenc_gives mac.now mode.now tag_size (sealing (lanes.block_in ivs.now n) (piece aads.now n) (lanes.front_in T.bytes_of lengths.now texts.old n)) }
-    ensures rest { (n : ℕ) → n < 8 → n < length texts.old → drop (slice_index lengths.now n + tag_size) (lanes.text_in T.bytes_of texts.new n)
-        ≡ drop (slice_index lengths.now n + tag_size) (lanes.text_in T.bytes_of texts.old n) }
+    ensures sealed { AreSealed T.bytes_of (authenc_gives mac.now mode.now) ivs.now aads.now lengths.now tag_size texts.old texts.new }
+    ensures rest { KeepRests T.bytes_of lengths.now tag_size texts.old texts.new }
     ensures same { (n : ℕ) → n < 8 → length (lanes.text_in T.bytes_of texts.new n) ≡ length (lanes.text_in T.bytes_of texts.old n) }
     ensures count { length texts.new ≡ length texts.old }
 {
@@ -93,9 +88,10 @@ fn seal_tagged_fronts<T: Text>(
     put_tags_at(texts, lengths, &tags, tag_size);
 }
 
-/// Seals the front of each of at most eight texts in its place: the first `lengths[n]` bytes of text `n`, which are whole blocks. A tag of
-/// `tag_size` bytes is written behind them: none under CBC, at most 32 under authenc. What stands behind that stays as it is. A text and
-/// its associated bytes have fewer than 2^63 bytes together. No memory is taken.
+/// Seals the front of each of at most eight texts in its place: the first `lengths[n]` bytes of text `n`, which are
+/// whole blocks. A tag of `tag_size` bytes is written behind them: none under CBC, at most 32 under authenc. What
+/// stands behind that stays as it is. A text and its associated bytes have fewer than 2^63 bytes together. No memory is
+/// taken.
 pub fn seal_fronts<T: Text>(
     key: StepKey<'_>,
     ivs: &[[u8; 16]; 8],
@@ -106,10 +102,8 @@ pub fn seal_fronts<T: Text>(
 )
     requires fronts { AreFronts T.bytes_of lengths.now aads.now tag_size texts.old }
     requires tag { tag_size ≤ tag_room key }
-    ensures sealed { (n : ℕ) → n < 8 → n < length texts.old → bytes (take (slice_index lengths.now n + tag_size) (lanes.text_in T.bytes_of texts.new n))
-        ≡ sealed_by key.entry tag_size (sealing (lanes.block_in ivs.now n) (piece aads.now n) (lanes.front_in T.bytes_of lengths.now texts.old n)) }
-    ensures rest { (n : ℕ) → n < 8 → n < length texts.old → drop (slice_index lengths.now n + tag_size) (lanes.text_in T.bytes_of texts.new n)
-        ≡ drop (slice_index lengths.now n + tag_size) (lanes.text_in T.bytes_of texts.old n) }
+    ensures sealed { AreSealed T.bytes_of (sealed_by key.entry) ivs.now aads.now lengths.now tag_size texts.old texts.new }
+    ensures rest { KeepRests T.bytes_of lengths.now tag_size texts.old texts.new }
     ensures same { (n : ℕ) → n < 8 → length (lanes.text_in T.bytes_of texts.new n) ≡ length (lanes.text_in T.bytes_of texts.old n) }
     ensures count { length texts.new ≡ length texts.old }
 {

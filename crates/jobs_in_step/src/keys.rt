@@ -22,9 +22,10 @@ ghost use Rattle.jobs_in_step.specs.Steps.{sealed_by, room_by, tag_room, takes_a
 
 /// What of a key seals eight texts in step, or none where its plan is another than CBC and authenc over it.
 pub fn step_key(key: &Keyed) -> Option<StepKey<'_>>
-    ensures values { MatchOption result ⊤ (λ k. (n : ℕ) (q : Request) → q.dir ≡ Enc → sealed_by k n q ≡ request_value (driver_of key.now.0) key.now.1 n q) }
-    ensures taken { MatchOption result ⊤ (λ k. (n : ℕ) (q : Request) → q.dir ≡ Enc → length q.iv ≡ 16 → takes_associated k (length q.aad) ≡ true
-        → takes key.now.0 n q ≡ true) }
+    ensures values { MatchOption result ⊤ (λ k. (n : ℕ) (q : Request) → q.dir ≡ Enc
+        → sealed_by k n q ≡ request_value (driver_of key.now.0) key.now.1 n q) }
+    ensures taken { MatchOption result ⊤ (λ k. (n : ℕ) (q : Request) → q.dir ≡ Enc → length q.iv ≡ 16
+        → takes_associated k (length q.aad) ≡ true → takes key.now.0 n q ≡ true) }
     ensures rooms { MatchOption result ⊤ (λ k. (n : ℕ) (q : Request) → q.dir ≡ Enc → room_by k n q ≡ room_of key.now.0 n q) }
 {
     match key.inner() {

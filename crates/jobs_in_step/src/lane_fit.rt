@@ -1,7 +1,8 @@
 //! Which jobs fit in the lanes.
 
-ghost use Rattle.std.specs.Prelude.{◌≡◌, ◌<◌, ℕ, ⊤, None, IsTrue, MatchOption, slice_index_or};
+ghost use Rattle.std.specs.Prelude.{◌≡◌, ◌<◌, ℕ, None, IsTrue, slice_index_or};
 ghost use Rattle.std.specs.Arc.{arc_value};
+ghost use Rattle.jobs_in_step.specs.Lanes.{FitsKey};
 ghost use Rattle.jobs_in_step.specs.Steps.{Fits};
 
 use transforms::{Dir, Job, Keyed};
@@ -20,7 +21,7 @@ fn fits(job: &Job, key: &Keyed) -> bool
 
 /// Whether a lane's job, where there is one, fits.
 fn lane_fits(job: &Option<Job>, key: &Keyed) -> bool
-    ensures { IsTrue result → MatchOption job.now ⊤ (λ j. (arc_value (arc_value j.ask).keyed ≡ key.now) × Fits (arc_value j.ask)) }
+    ensures { IsTrue result → FitsKey key.now job.now }
 {
     match job {
         Some(job) => fits(job, key),
@@ -30,7 +31,7 @@ fn lane_fits(job: &Option<Job>, key: &Keyed) -> bool
 
 /// Whether each job fits.
 pub fn all_fit(jobs: &[Option<Job>; 8], key: &Keyed) -> bool
-    ensures { IsTrue result → (n : ℕ) → n < 8 → MatchOption (slice_index_or jobs.now n None) ⊤ (λ j. (arc_value (arc_value j.ask).keyed ≡ key.now) × Fits (arc_value j.ask)) }
+    ensures { IsTrue result → (n : ℕ) → n < 8 → FitsKey key.now (slice_index_or jobs.now n None) }
 {
     for n in 0..8usize {
         if !lane_fits(&jobs[n], key) {

@@ -44,7 +44,8 @@ pub fn lengths_of(asks: &[Option<Arc<Ask>>; 8]) -> [usize; 8]
 
 /// The IV, where it has 16 bytes.
 fn iv_of(ask: &Option<Arc<Ask>>) -> [u8; 16]
-    ensures { (a : ArcValue AskValue GlobalAlloc) → ask.now ≡ Some a → length (arc_value a).request.iv ≡ 16 → result ≡ (arc_value a).request.iv }
+    ensures { (a : ArcValue AskValue GlobalAlloc) → ask.now ≡ Some a → length (arc_value a).request.iv ≡ 16
+        → result ≡ (arc_value a).request.iv }
 {
     let mut iv = [0u8; 16];
     if let Some(ask) = ask {
@@ -57,8 +58,8 @@ fn iv_of(ask: &Option<Arc<Ask>>) -> [u8; 16]
 
 /// The IV of each request, where it has 16 bytes.
 pub fn ivs_of(asks: &[Option<Arc<Ask>>; 8]) -> [[u8; 16]; 8]
-    ensures { (n : ℕ) (a : ArcValue AskValue GlobalAlloc) → n < 8 → slice_index_or asks.now n None ≡ Some a → length (arc_value a).request.iv ≡ 16
-        → slice_index_or result n [] ≡ (arc_value a).request.iv }
+    ensures { (n : ℕ) (a : ArcValue AskValue GlobalAlloc) → n < 8 → slice_index_or asks.now n None ≡ Some a
+        → length (arc_value a).request.iv ≡ 16 → slice_index_or result n [] ≡ (arc_value a).request.iv }
 {
     [
         iv_of(&asks[0]),
@@ -116,7 +117,8 @@ pub fn answers_of(
     asks: &[Option<Arc<Ask>>; 8],
     texts: &mut [Vec<u8>; 8],
 ) -> [Option<Finished>; 8]
-    ensures { (n : ℕ) → n < 8 → option_map finished_value (slice_index_or result n None) ≡ option_map (λ a. bytes (text_in texts.old n)) (slice_index_or asks.now n None) }
+    ensures { (n : ℕ) → n < 8 → option_map finished_value (slice_index_or result n None)
+        ≡ option_map (λ a. bytes (text_in texts.old n)) (slice_index_or asks.now n None) }
 {
     let mut answers = [None, None, None, None, None, None, None, None];
     for n in 0..8usize {

@@ -15,7 +15,8 @@ use transforms::{AnyAes, Ask};
 /// Writes the front of the tag behind the first bytes of the text, up to its end.
 fn put_tag(text: &mut Vec<u8>, len: usize, tag: &[u8; 32])
     requires { len ≤ length text.old.items }
-    ensures { length text.old.items ≤ len + 32 → text.new.items ≡ take len text.old.items ++ take (length text.old.items - len) tag.now }
+    ensures { length text.old.items ≤ len + 32
+        → text.new.items ≡ take len text.old.items ++ take (length text.old.items - len) tag.now }
 {
     let count = (text.len() - len).min(32);
     text[len..len + count].copy_from_slice(&tag[..count]);
@@ -25,7 +26,8 @@ fn put_tag(text: &mut Vec<u8>, len: usize, tag: &[u8; 32])
 fn put_tags(texts: &mut [Vec<u8>; 8], lengths: &[usize; 8], tags: &[[u8; 32]; 8])
     requires { (n : ℕ) → n < 8 → slice_index lengths.now n ≤ length (text_in texts.old n) }
     ensures { (n : ℕ) → n < 8 → length (text_in texts.old n) ≤ slice_index lengths.now n + 32
-        → text_in texts.new n ≡ take (slice_index lengths.now n) (text_in texts.old n) ++ take (length (text_in texts.old n) - slice_index lengths.now n) (slice_index_or tags.now n []) }
+        → text_in texts.new n ≡ take (slice_index lengths.now n) (text_in texts.old n)
+        ++ take (length (text_in texts.old n) - slice_index lengths.now n) (slice_index_or tags.now n []) }
 {
     for n in 0..8usize {
         put_tag(&mut texts[n], lengths[n], &tags[n]);

@@ -1,7 +1,6 @@
 //! Jobs run at once.
 
-ghost use Rattle.std.specs.Prelude.{◌≡◌, ◌<◌, ℕ, ⊤, None, MatchOption, slice_index_or};
-ghost use Rattle.std.specs.Arc.{arc_value};
+ghost use Rattle.std.specs.Prelude.{◌≡◌, ◌<◌, ℕ, None, slice_index_or};
 ghost use Rattle.std.specs.Option.{option_map};
 ghost use Rattle.transforms.specs.Asked.{room_of};
 ghost use Rattle.transforms.specs.Drivers.{driver_of};
@@ -9,8 +8,8 @@ ghost use Rattle.transforms.specs.Finish.{finished_value};
 ghost use Rattle.transforms.specs.RequestValue.{request_value};
 ghost use Rattle.transforms.specs.declared.request.Dir.TheVariants.{Enc};
 ghost use Rattle.transforms.specs.declared.request.Request.{Request};
-ghost use Rattle.jobs_in_step.specs.Lanes.{job_value};
-ghost use Rattle.jobs_in_step.specs.Steps.{sealed_by, room_by, Fits};
+ghost use Rattle.jobs_in_step.specs.Lanes.{AreValues, FitsKey, job_value};
+ghost use Rattle.jobs_in_step.specs.Steps.{sealed_by, room_by};
 
 use crate::keys::{StepKey, step_key};
 use crate::lane_fit::all_fit;
@@ -32,7 +31,7 @@ fn run_one(job: Option<Job>) -> Option<Finished>
 
 /// Runs the jobs one after another.
 fn run_each(jobs: [Option<Job>; 8]) -> [Option<Finished>; 8]
-    ensures { (n : ℕ) → n < 8 → option_map finished_value (slice_index_or result n None) ≡ option_map job_value (slice_index_or jobs n None) }
+    ensures { AreValues result jobs }
 {
     let [a, b, c, d, e, f, g, h] = jobs;
     [
@@ -54,20 +53,22 @@ fn run_in_step(
     key: StepKey<'_>,
     jobs: [Option<Job>; 8],
 ) -> [Option<Finished>; 8]
-    requires values { (n : ℕ) (q : Request) → q.dir ≡ Enc → sealed_by key n q ≡ request_value (driver_of keyed.now.0) keyed.now.1 n q }
+    requires values { (n : ℕ) (q : Request) → q.dir ≡ Enc
+        → sealed_by key n q ≡ request_value (driver_of keyed.now.0) keyed.now.1 n q }
     requires rooms { (n : ℕ) (q : Request) → q.dir ≡ Enc → room_by key n q ≡ room_of keyed.now.0 n q }
-    requires fit { (n : ℕ) → n < 8 → MatchOption (slice_index_or jobs n None) ⊤ (λ j. (arc_value (arc_value j.ask).keyed ≡ keyed.now) × Fits (arc_value j.ask)) }
-    ensures { (n : ℕ) → n < 8 → option_map finished_value (slice_index_or result n None) ≡ option_map job_value (slice_index_or jobs n None) }
+    requires fit { (n : ℕ) → n < 8 → FitsKey keyed.now (slice_index_or jobs n None) }
+    ensures { AreValues result jobs }
 {
     let (asks, mut texts) = parts_of(alloc, jobs);
     seal_by(key, &asks, &mut texts);
     answers_of(alloc, &asks, &mut texts)
 }
 
-/// Runs up to eight jobs, each to the value of its ask. Where all are sealings of whole blocks under `keyed`, whose plan is CBC or authenc
-/// over it, and the tags have at most 32 bytes, they run in step, else one after another. No memory is taken.
+/// Runs up to eight jobs, each to the value of its ask. Where all are sealings of whole blocks under `keyed`, whose
+/// plan is CBC or authenc over it, and the tags have at most 32 bytes, they run in step, else one after another. No
+/// memory is taken.
 pub fn run_together(alloc: Global, keyed: &Keyed, jobs: [Option<Job>; 8]) -> [Option<Finished>; 8]
-    ensures { (n : ℕ) → n < 8 → option_map finished_value (slice_index_or result n None) ≡ option_map job_value (slice_index_or jobs n None) }
+    ensures { AreValues result jobs }
 {
     match step_key(keyed) {
         Some(key) => {

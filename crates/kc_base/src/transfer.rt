@@ -77,7 +77,8 @@ pub fn read_input<S: Source>(
     limit: usize,
 ) -> Result<Bytes, InputError>
     requires { 0 < length buf.old }
-    ensures whole { IfOk result (λ input. Consumes (S.left src.old) (S.left src.new) input × IsAtEnd (S.left src.new) × (length input ≤ limit)) }
+    ensures whole { IfOk result (λ input. Consumes (S.left src.old) (S.left src.new) input
+        × IsAtEnd (S.left src.new) × (length input ≤ limit)) }
     ensures part { IfErr result (StopsReading (S.left src.old) (S.left src.new) limit) }
     ensures later { S.faults src.old ≤ S.faults src.new }
     ensures cause { IsErrOf result InputError.Failed → Rose (S.faults src.old) (S.faults src.new) }

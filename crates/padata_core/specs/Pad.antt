@@ -1,4 +1,4 @@
-use Rattle.std.specs.Prelude.{◌≡◌, ℕ, zero, suc, ◌+◌, ◌<◌, ◌≤◌, ◌%◌, ◌==◌, if◌then◌else◌, List, [], ◌∷◌, length, slice_index_or, Option, Some, None}
+use Rattle.std.specs.Prelude.{◌≡◌, ℕ, zero, suc, ◌+◌, ◌<◌, ◌≤◌, ◌%◌, ◌==◌, if◌then◌else◌, List, [], ◌∷◌, ◌++◌, drop, length, slice_index_or, Option, Some, None}
 use Rattle.kc_base.specs.declared.callback_list.Callback.{Callback}
 use Rattle.kc_base.specs.declared.callback_list.Callback.TheVariants.{Done}
 use Rattle.padata_core.specs.Rows.{Slot, found}
@@ -26,6 +26,15 @@ abbrev pub ready : {F : Type 0} → List (Option F) → List F
 ready [] = []
 ready (None ∷ outcomes) = []
 ready (Some outcome ∷ outcomes) = outcome ∷ ready outcomes
+
+-- the first job that waits is taken, and these wait
+abbrev pub with_taken : {J F : Type 0} → Pad J F → List J → Pad J F
+with_taken pad rest = record pad { outcomes = pad.outcomes ++ None ∷ []; waiting = rest }
+
+-- what is ready leaves the pad
+abbrev pub emptied : {J F : Type 0} → Pad J F → Pad J F
+emptied pad =
+    record pad { collected = pad.collected + length (ready pad.outcomes); outcomes = drop (length (ready pad.outcomes)) pad.outcomes }
 
 -- the completions of the numbers from n on
 abbrev pub done_from : {F : Type 0} → ℕ → List F → List (Callback F)

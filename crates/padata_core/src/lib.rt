@@ -5,9 +5,9 @@ pub mod laws;
 mod row;
 mod rows;
 
-ghost use Rattle.std.specs.Prelude.{◌≡◌, ℕ, ◌+◌, ◌-◌, ◌^◌, ◌<◌, ◌≤◌, List, [], ◌∷◌, ◌++◌, drop, length, slice_get, slice_set, Some, None, IfOk, OnOk, OnErr, IfSome, MatchOption, MatchBool, nat_lt};
+ghost use Rattle.std.specs.Prelude.{◌≡◌, ℕ, ◌+◌, ◌-◌, ◌^◌, ◌<◌, ◌≤◌, List, [], ◌∷◌, ◌++◌, length, slice_get, slice_set, Some, None, IfOk, OnOk, OnErr, IfSome, MatchOption, MatchBool, nat_lt};
 ghost use Rattle.std.specs.VecDeque.{deque_len, deque_capacity};
-ghost use Rattle.padata_core.specs.Pad.{taken_of, submitted_of, ready, done_from, running_of, on_list};
+ghost use Rattle.padata_core.specs.Pad.{taken_of, submitted_of, ready, with_taken, emptied, done_from, running_of, on_list};
 
 use crate::row::Row;
 use crate::rows::{empty_rows, move_rows, reserve_rows};
@@ -38,9 +38,20 @@ impl<J, F> Model for Padata<J, F> {
 
     ghost Value = { Pad J F };
 
-    ghost view = { λ p. record { lists = p.lists; collected = p.collected; outcomes = outcomes_from (kept_at p.rows.items p.lists) p.collected (p.taken - p.collected); waiting = p.waiting.items; spare = p.spare } };
+    ghost view = { λ p. record {
+      lists = p.lists;
+      collected = p.collected;
+      outcomes = outcomes_from (kept_at p.rows.items p.lists) p.collected (p.taken - p.collected);
+      waiting = p.waiting.items;
+      spare = p.spare;
+    } };
 
-    ghost invariant = { λ p. AreRows p.rows.items p.lists p.collected p.taken p.room × (p.collected ≤ p.taken) × (p.running ≡ running_of (outcomes_from (kept_at p.rows.items p.lists) p.collected (p.taken - p.collected))) × (p.taken + deque_len p.waiting ≤ 2 ^ 63) × (deque_len p.waiting + p.spare ≤ deque_capacity p.waiting) × ((p.taken - p.collected) + deque_len p.waiting + p.spare ≤ p.room * p.lists) };
+    ghost invariant = { λ p. AreRows p.rows.items p.lists p.collected p.taken p.room
+        × (p.collected ≤ p.taken)
+        × (p.running ≡ running_of (outcomes_from (kept_at p.rows.items p.lists) p.collected (p.taken - p.collected)))
+        × (p.taken + deque_len p.waiting ≤ 2 ^ 63)
+        × (deque_len p.waiting + p.spare ≤ deque_capacity p.waiting)
+        × ((p.taken - p.collected) + deque_len p.waiting + p.spare ≤ p.room * p.lists) };
 }
 
 impl<J: Drop, F: Drop> Padata<J, F> {
@@ -105,7 +116,11 @@ impl<J: Drop, F: Drop> Padata<J, F> {
 
     /// Hands out the job of the least number that nobody has taken, or `None` exactly where there is none.
     pub fn take(&mut self) -> Option<(u64, J)>
-        ensures { MatchOption result ((self.old.waiting ≡ []) × (self.new ≡ self.old)) (λ taken. (taken.0 ≡ taken_of self.old) × (self.old.waiting ≡ taken.1 ∷ self.new.waiting) × (self.new ≡ record self.old { outcomes = self.old.outcomes ++ None ∷ []; waiting = self.new.waiting })) }
+        ensures { MatchOption result
+            ((self.old.waiting ≡ []) × (self.new ≡ self.old))
+            (λ taken. (taken.0 ≡ taken_of self.old)
+            × (self.old.waiting ≡ taken.1 ∷ self.new.waiting)
+            × (self.new ≡ with_taken self.old self.new.waiting)) }
     {
         let job = self.waiting.pop_front()?;
         let number = self.taken;
@@ -151,7 +166,9 @@ impl<J: Drop, F: Drop> Padata<J, F> {
 
     /// Whether each job that was submitted is done.
     pub fn is_done(&self) -> bool
-        ensures { MatchBool result (submitted_of self.now ≡ self.now.collected + length (ready self.now.outcomes)) (self.now.collected + length (ready self.now.outcomes) < submitted_of self.now) }
+        ensures { MatchBool result
+            (submitted_of self.now ≡ self.now.collected + length (ready self.now.outcomes))
+            (self.now.collected + length (ready self.now.outcomes) < submitted_of self.now) }
     {
         self.running == 0 && self.waiting.is_empty()
     }
@@ -196,7 +213,11 @@ impl<J: Drop, F: Drop> Padata<J, F> {
 
     /// Hands out the outcome of the first number that isn't collected, where its job is done.
     pub fn collect_next(&mut self) -> Option<(u64, F)>
-        ensures { MatchOption result ((ready self.old.outcomes ≡ []) × (self.new ≡ self.old)) (λ r. (r.0 ≡ self.old.collected) × (self.old.outcomes ≡ Some r.1 ∷ self.new.outcomes) × (self.new ≡ record self.old { collected = self.old.collected + 1; outcomes = self.new.outcomes })) }
+        ensures { MatchOption result
+            ((ready self.old.outcomes ≡ []) × (self.new ≡ self.old))
+            (λ r. (r.0 ≡ self.old.collected)
+            × (self.old.outcomes ≡ Some r.1 ∷ self.new.outcomes)
+            × (self.new ≡ record self.old { collected = self.old.collected + 1; outcomes = self.new.outcomes })) }
     {
         let list = (self.collected % self.lists as u64) as usize;
         let row = &mut self.rows[list];
@@ -212,7 +233,7 @@ impl<J: Drop, F: Drop> Padata<J, F> {
         requires { length (ready self.old.outcomes) ≤ into.old.spare }
         ensures handed { into.new.list ≡ into.old.list ++ done_from self.old.collected (ready self.old.outcomes) }
         ensures spare { into.new.spare + length (ready self.old.outcomes) ≡ into.old.spare }
-        ensures collected { self.new ≡ record self.old { collected = self.old.collected + length (ready self.old.outcomes); outcomes = drop (length (ready self.old.outcomes)) self.old.outcomes } }
+        ensures collected { self.new ≡ emptied self.old }
         ensures rest { length (ready self.old.outcomes) + length self.new.outcomes ≡ length self.old.outcomes }
         ensures front { ready self.new.outcomes ≡ [] }
     {

@@ -72,7 +72,9 @@ impl<F: Drop> Row<F> {
 
     /// Takes the first outcome out, where it is that of this number.
     pub(crate) fn take_first(&mut self, number: u64) -> Option<F>
-        ensures { MatchOption result ((first_is number self.old.entries ≡ false) × (self.new ≡ self.old)) (λ out. (self.old.entries ≡ (number, out) ∷ self.new.entries) × (self.new.room ≡ self.old.room)) }
+        ensures { MatchOption result
+            ((first_is number self.old.entries ≡ false) × (self.new ≡ self.old))
+            (λ out. (self.old.entries ≡ (number, out) ∷ self.new.entries) × (self.new.room ≡ self.old.room)) }
     {
         if !self.starts_with(number) {
             return None;

@@ -10,7 +10,8 @@ use std::alloc::{AllocError, Global};
 /// So many empty lists, with room for no outcome.
 pub(crate) fn empty_rows<F: Drop>(alloc: Global, lists: u32) -> Result<Vec<Row<F>>, AllocError>
     ensures count { IfOk result (λ rows. length rows.items ≡ lists) }
-    ensures empty { IfOk result (λ rows. (k : ℕ) (d : Slot F) → k < lists → slice_index_or rows.items k d ≡ record { entries = []; room = 0 }) }
+    ensures empty { IfOk result (λ rows. (k : ℕ) (d : Slot F) → k < lists
+        → slice_index_or rows.items k d ≡ record { entries = []; room = 0 }) }
 {
     let mut rows = Vec::new(alloc);
     for _ in 0..lists {

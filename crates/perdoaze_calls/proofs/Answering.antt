@@ -16,7 +16,6 @@ use Rattle.transforms.specs.declared.request.Request.{Request}
 use Rattle.perdoaze_calls.specs.Requests.{HasValue, IsNotTaken, Gave, Cleared, Answers, refusal}
 use Rattle.perdoaze_calls.specs.Under.{key_within}
 use Rattle.perdoaze_calls.specs.declared.status.Status.{Status}
-use Rattle.perdoaze_calls.specs.declared.status.Status.TheVariants.{Invalid}
 use Rattle.perdoaze_calls.specs.declared.transform.Transform.{Transform}
 
 some : Value → Option Value
@@ -44,14 +43,6 @@ front_is made old n e = subst (λ m. take m (made ++ drop n old) ≡ made) e (ta
 pub rest_is : (made old : List ℕ) (n : ℕ) → length made ≡ n → drop n (made ++ drop n old) ≡ drop n old
 rest_is made old n e = subst (λ m. drop m (made ++ drop n old) ≡ drop n old) e (drop-append_seam made (drop n old))
 
-pub gave : (t : Transform) (k : Plan × List ℕ) (q : Request) (old made : List ℕ) (n : ℕ) → IsKey t k → length made ≡ n
-    → kept.HasValue k t.authsize q (bytes made) → Gave t q old (made ++ drop n old) n
-gave t k q old made n i e h = record {
-  value = has_value t k q (bytes (take n (made ++ drop n old))) i (rw (front_is made old n e) h);
-  fits = omega (arith, length-append made (drop n old));
-  rest = rest_is made old n e;
-}
-
 pub refused : (t : Transform) (k : Plan × List ℕ) (q : Request) (room n : ℕ) (e : Errno) (old new : List ℕ) → IsKey t k
     → kept.IsRefused e k t.authsize q → Cleared n old new 0 → Answers t q room n (refusal e) old new 0
 refused t k q room n e old new i h c =
@@ -59,10 +50,6 @@ refused t k q room n e old new i h c =
     (λ b. rw b.0 (has_value t k q bad_message i b.1, c))
     (λ v. rw v.0 (invalid_or_not t k q i v.1, inr c))
     h
-
-pub invalid_now : (t : Transform) (k : Plan × List ℕ) (q : Request) (room n : ℕ) (old new : List ℕ) → IsKey t k
-    → kept.IsInvalid k t.authsize q → Cleared n old new 0 → Answers t q room n Invalid old new 0
-invalid_now t k q room n old new i h c = (invalid_or_not t k q i h, inr c)
 
 -- what a text became that was copied to the front of `out`, and what lies behind it
 pub text_copied : (text out mid : List ℕ) → mid ≡ text ++ drop (length text) out → take (length text) mid ≡ text

@@ -55,9 +55,6 @@ module _ (xs ys : List Encryption) (same : map question_of xs ≡ map question_o
   pub len_kept : (i : ℕ) → len_in xs i ≡ len_in ys i
   len_kept i = ap (λ (zs : List ℕ). slice_index_or zs i 0) (part (λ q. q.2))
 
-  pub count_kept : length xs ≡ length ys
-  count_kept = sym (length-map xs question_of) ∙ ap length same ∙ length-map ys question_of
-
 -- an answer that stays
 pub came_stays : (t : Transform) (old was now : List Encryption) (before been after : List PieceMut) (k : ℕ)
     → status_in now k ≡ status_in was k → written_in now k ≡ written_in was k → bytes_in after k ≡ bytes_in been k

@@ -5,12 +5,9 @@ use Rattle.std.specs.Int.{w32, from_be_bytes}
 use Rattle.std.proofs.lemmas.Bool.{eqb-true, leb-true, le-leb}
 use Rattle.std.proofs.lemmas.List.{length-replicate}
 use Rattle.std_defs.specs.Authenc.{blob, is_blob, blob_keys, mac_key_length, cipher_key_length}
-use Rattle.std_defs.specs.Ccm.{ccm_takes_tag}
-use Rattle.std_defs.specs.Gcm.{gcm_takes_tag}
-use Rattle.std_defs.specs.Rfc4106.{rfc4106_takes_tag}
 use Rattle.templates.specs.declared.driver_plans.Plan.{Plan}
 use Rattle.templates.specs.declared.driver_plans.Plan.TheVariants.{Cbc, Ctr, Rfc3686, Xts, Gcm, Rfc4106, Ccm, Hmac, Cmac, AuthencCbc, AuthencCtr, AuthencRfc3686, AuthencXts}
-use Rattle.transforms.specs.Plans.{takes_key, takes_tag, fits_tag, is_key_length, is_salted_length, is_doubled_length, by_keys, authenc_takes_tag}
+use Rattle.transforms.specs.Plans.{takes_key, takes_tag, is_key_length, is_salted_length, is_doubled_length, by_keys}
 use Rattle.perdoaze_calls.specs.Infos.{least_key, greatest_key, no_limit}
 use Rattle.perdoaze_calls.specs.Laws.{TakesSize}
 
@@ -28,57 +25,6 @@ second false b e = absurd (cc)
 
 all_three : (a b c : Bool) → a ≡ true → b ≡ true → c ≡ true → (a && b && c) ≡ true
 all_three a b c p q r = rw (p, q, r) refl
-
--- ---- tags
-
-gcm_tag : (n : ℕ) → gcm_takes_tag n ≡ true → n ≤ 32
-gcm_tag n e =
-    ⊎_elim (λ a. let x : n ≡ 4 = eqb-true n 4 a in omega (arith, x))
-    (λ o. ⊎_elim (λ a. let x : n ≡ 8 = eqb-true n 8 a in omega (arith, x))
-    (λ a. let x : n ≤ 16 = leb-true n 16 (second (nat_le 12 n) (nat_le n 16) a) in omega (arith, x))
-    (either (n == 8) (nat_le 12 n && nat_le n 16) o))
-    (either (n == 4) (n == 8 || (nat_le 12 n && nat_le n 16)) e)
-
-rfc4106_tag : (n : ℕ) → rfc4106_takes_tag n ≡ true → n ≤ 32
-rfc4106_tag n e =
-    ⊎_elim (λ a. let x : n ≡ 8 = eqb-true n 8 a in omega (arith, x))
-    (λ o. ⊎_elim (λ a. let x : n ≡ 12 = eqb-true n 12 a in omega (arith, x)) (λ a. let x : n ≡ 16 = eqb-true n 16 a in omega (arith, x)) (either (n == 12) (n == 16) o))
-    (either (n == 8) (n == 12 || n == 16) e)
-
-one_more : (b : Bool) (n k : ℕ) → k ≤ 32 → (b ≡ true → n ≤ 32) → (b || n == k) ≡ true → n ≤ 32
-one_more b n k h before e = ⊎_elim before (λ a. let x : n ≡ k = eqb-true n k a in omega (arith, x, h)) (either b (n == k) e)
-
-ccm_tag : (n : ℕ) → ccm_takes_tag n ≡ true → n ≤ 32
-ccm_tag n e =
-    one_more (n == 4 || n == 6 || n == 8 || n == 10 || n == 12 || n == 14) n 16 (lit≤ tt)
-    (one_more (n == 4 || n == 6 || n == 8 || n == 10 || n == 12) n 14 (lit≤ tt)
-    (one_more (n == 4 || n == 6 || n == 8 || n == 10) n 12 (lit≤ tt)
-    (one_more (n == 4 || n == 6 || n == 8) n 10 (lit≤ tt)
-    (one_more (n == 4 || n == 6) n 8 (lit≤ tt)
-    (one_more (n == 4) n 6 (lit≤ tt) (λ a. let x : n ≡ 4 = eqb-true n 4 a in omega (arith, x)))))))
-    e
-
-authenc_tag : (n : ℕ) → authenc_takes_tag n ≡ true → n ≤ 32
-authenc_tag n e = leb-true n 32 (second (nat_le 1 n) (nat_le n 32) e)
-
-no_tag : (n : ℕ) → (n == 0) ≡ true → n ≤ 32
-no_tag n e = let x : n ≡ 0 = eqb-true n 0 e in omega (arith, x)
-
--- no tag has more than 32 bytes
-pub small_tag : (p : Plan) (n : ℕ) → fits_tag p n ≡ true → n ≤ 32
-small_tag (Cbc aes) n e = no_tag n e
-small_tag (Ctr aes) n e = no_tag n e
-small_tag (Rfc3686 aes) n e = no_tag n e
-small_tag (Xts aes) n e = no_tag n e
-small_tag (Gcm aes ghash) n e = gcm_tag n e
-small_tag (Rfc4106 aes ghash) n e = rfc4106_tag n e
-small_tag (Ccm aes) n e = ccm_tag n e
-small_tag Hmac n e = no_tag n e
-small_tag (Cmac aes) n e = no_tag n e
-small_tag (AuthencCbc aes) n e = authenc_tag n e
-small_tag (AuthencCtr aes) n e = authenc_tag n e
-small_tag (AuthencRfc3686 aes) n e = authenc_tag n e
-small_tag (AuthencXts aes) n e = authenc_tag n e
 
 -- ---- keys of AES
 

@@ -201,7 +201,8 @@ pub fn encrypt_many(
     buffers: &mut [PieceMut<'_>],
 )
     ensures kept { slot.new.handle.value ≡ slot.old.handle.value }
-    ensures came { (i : ℕ) → i < length asked.old → i < length buffers.old → CameTo slot.old.handle.value asked.old asked.new buffers.old buffers.new i }
+    ensures came { (i : ℕ) → i < length asked.old → i < length buffers.old
+        → CameTo slot.old.handle.value asked.old asked.new buffers.old buffers.new i }
     ensures questions { map question_of asked.new ≡ map question_of asked.old }
     ensures sizes { map size_of buffers.new ≡ map size_of buffers.old }
 {

@@ -39,7 +39,8 @@ fn add_block(chain: &mut [u8; 16], b: &[u8; 16])
 fn seal_blocks<C: BlockCipher>(cipher: &C, iv: &[u8; 16], from: &[u8], into: &mut [u8])
     requires whole { length from.now % 16 ≡ 0 }
     requires room { length from.now ≤ length into.old }
-    ensures { into.new ≡ joined (λ j. cbc_block (C.sealed cipher.now) iv.now from.now (suc j)) (length from.now / 16) ++ drop (length from.now) into.old }
+    ensures { into.new ≡ joined (λ j. cbc_block (C.sealed cipher.now) iv.now from.now (suc j)) (length from.now / 16)
+        ++ drop (length from.now) into.old }
 {
     let mut chain = *iv;
     for i in 0..from.len() / 16 {
@@ -53,7 +54,8 @@ fn seal_blocks<C: BlockCipher>(cipher: &C, iv: &[u8; 16], from: &[u8], into: &mu
 fn seal_under(aes: &AnyAes, iv: &[u8; 16], from: &[u8], into: &mut [u8])
     requires whole { length from.now % 16 ≡ 0 }
     requires room { length from.now ≤ length into.old }
-    ensures { into.new ≡ joined (λ j. cbc_block (seal (key_of aes.now)) iv.now from.now (suc j)) (length from.now / 16) ++ drop (length from.now) into.old }
+    ensures { into.new ≡ joined (λ j. cbc_block (seal (key_of aes.now)) iv.now from.now (suc j)) (length from.now / 16)
+        ++ drop (length from.now) into.old }
 {
     match aes {
         AnyAes::Generic(aes) => seal_blocks(aes, iv, from, into),
@@ -90,7 +92,8 @@ fn seal_authenc(
     requires whole { length text.now % 16 ≡ 0 }
     requires tag { tag_size ≤ 32 }
     requires room { length text.now + tag_size ≤ length out.old }
-    ensures sealed { authenc_gives mac.now mode.now tag_size (sealing iv.now aad.now text.now) ≡ bytes (take (length text.now + tag_size) out.new) }
+    ensures sealed { authenc_gives mac.now mode.now tag_size (sealing iv.now aad.now text.now)
+        ≡ bytes (take (length text.now + tag_size) out.new) }
     ensures rest { drop (length text.now + tag_size) out.new ≡ drop (length text.now + tag_size) out.old }
     ensures len { length out.new ≡ length out.old }
 {
@@ -126,8 +129,8 @@ fn goes_directly(key: StepKey<'_>, iv: &[u8], aad: &[u8], text: &[u8], tag_size:
         && tag_size <= key.most_tag()
 }
 
-/// Seals the text into the front of `out`, and writes the tag behind the ciphertext, where the plan is CBC or authenc over it and the
-/// request is taken. Otherwise nothing is done.
+/// Seals the text into the front of `out`, and writes the tag behind the ciphertext, where the plan is CBC or authenc
+/// over it and the request is taken. Otherwise nothing is done.
 pub(crate) fn seal_directly(
     keyed: &Keyed,
     iv: &[u8],

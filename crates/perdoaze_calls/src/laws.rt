@@ -26,11 +26,13 @@ pub fn key_sizes_are_exact()
     ensures smallest { (p : Plan) → TakesSize p (least_key p) }
     ensures none_smaller { (p : Plan) (key : List ℕ) → takes_key p key ≡ true → least_key p ≤ length key }
     ensures greatest { (p : Plan) → TakesSize p (greatest_key p) }
-    ensures none_greater { (p : Plan) (key : List ℕ) → takes_key p key ≡ true → (length key ≤ greatest_key p) ⊎ (greatest_key p ≡ no_limit) }
+    ensures none_greater { (p : Plan) (key : List ℕ) → takes_key p key ≡ true
+        → (length key ≤ greatest_key p) ⊎ (greatest_key p ≡ no_limit) }
     ensures unlimited { (p : Plan) (n : ℕ) → greatest_key p ≡ no_limit → least_key p ≤ n → TakesSize p n }
 {}
 
-/// An algorithm's name stands for a driver of that algorithm, and no driver of it that is listed has a greater priority.
+/// An algorithm's name stands for a driver of that algorithm, and no driver of it that is listed has a greater
+/// priority.
 pub fn names_stand_for_the_fastest()
     ensures { (p : Plan) → HasFastest p }
 {}

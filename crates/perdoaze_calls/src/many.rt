@@ -31,7 +31,8 @@ fn answer_one(transform: &Transform, asked: &mut Encryption<'_>, buffer: &mut [u
 
 /// Answers each request by itself.
 fn answer_each(transform: &Transform, asked: &mut [Encryption<'_>], buffers: &mut [PieceMut<'_>])
-    ensures came { (i : ℕ) → i < length asked.old → i < length buffers.old → CameTo (Some transform.now) asked.old asked.new buffers.old buffers.new i }
+    ensures came { (i : ℕ) → i < length asked.old → i < length buffers.old
+        → CameTo (Some transform.now) asked.old asked.new buffers.old buffers.new i }
     ensures kept { map question_of asked.new ≡ map question_of asked.old }
     ensures sizes { map size_of buffers.new ≡ map size_of buffers.old }
 {
@@ -72,7 +73,8 @@ fn mark(asked: &mut Encryption<'_>, tag_size: usize)
 fn mark_each(asked: &mut [Encryption<'_>], tag_size: usize)
     requires tag { tag_size ≤ 32 }
     requires short { (i : ℕ) → i < length asked.old → len_in asked.old i < 2 ^ 32 }
-    ensures marked { (i : ℕ) → i < length asked.old → (status_in asked.new i ≡ code_of Status.Done) × (written_in asked.new i ≡ len_in asked.old i + tag_size) }
+    ensures marked { (i : ℕ) → i < length asked.old
+        → (status_in asked.new i ≡ code_of Status.Done) × (written_in asked.new i ≡ len_in asked.old i + tag_size) }
     ensures kept { map question_of asked.new ≡ map question_of asked.old }
 {
     for i in 0..asked.len() {
@@ -184,8 +186,8 @@ fn lens_of(asked: &[Encryption<'_>]) -> [usize; 8]
 }
 
 impl Transform {
-    /// Answers at most eight requests in step, where the plan is CBC or authenc over it, and none of them is refused. Otherwise nothing
-    /// is done.
+    /// Answers at most eight requests in step, where the plan is CBC or authenc over it, and none of them is refused.
+    /// Otherwise nothing is done.
     fn encrypt_in_step(&self, asked: &mut [Encryption<'_>], buffers: &mut [PieceMut<'_>]) -> bool
         ensures came { IsTrue result → (i : ℕ) → i < length asked.old → i < length buffers.old
             → CameTo (Some self.now) asked.old asked.new buffers.old buffers.new i }
@@ -221,7 +223,8 @@ impl Transform {
 
     /// Encrypts the text of each request in the buffer beside it, and writes the tag behind it. No memory is taken.
     pub fn encrypt_many(&self, asked: &mut [Encryption<'_>], buffers: &mut [PieceMut<'_>])
-        ensures came { (i : ℕ) → i < length asked.old → i < length buffers.old → CameTo (Some self.now) asked.old asked.new buffers.old buffers.new i }
+        ensures came { (i : ℕ) → i < length asked.old → i < length buffers.old
+            → CameTo (Some self.now) asked.old asked.new buffers.old buffers.new i }
         ensures kept { map question_of asked.new ≡ map question_of asked.old }
         ensures sizes { map size_of buffers.new ≡ map size_of buffers.old }
     {

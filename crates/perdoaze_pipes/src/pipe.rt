@@ -4,9 +4,9 @@ ghost use Rattle.std.specs.Prelude.{◌≡◌, ◌≢◌, ◌≤◌, ◌<◌, �
 ghost use Rattle.kc_base.specs.declared.callback_list.Callback.{Callback as Told};
 ghost use Rattle.transforms.specs.declared.request.Finished.{Finished as Outcome};
 ghost use Rattle.perdoaze_pipes.specs.Calls.{Drains};
-ghost use Rattle.perdoaze_pipes.specs.Submitting.{Begins};
+ghost use Rattle.perdoaze_pipes.specs.Submission.{Begins};
 ghost use Rattle.perdoaze_pipes.specs.declared.answer.Answer.TheVariants as answers;
-ghost use Rattle.perdoaze_pipes.specs.Polling.{IsRefilled, IsCollected, collecting, Tells, HasNoRoom, Polls, event_of};
+ghost use Rattle.perdoaze_pipes.specs.Polls.{IsRefilled, IsCollected, collecting, Tells, HasNoRoom, Polls, event_of};
 
 use crate::answer::Answer;
 use crate::event::Event;
@@ -35,15 +35,17 @@ pub struct Pipe {
 impl Model for Pipe {
     ghost use Rattle.std.specs.Prelude.{◌≡◌, ◌≤◌, false, length, drop};
     ghost use Rattle.perdoaze_pipes.specs.Calls.{Drains};
-    ghost use Rattle.perdoaze_pipes.specs.Submitting.{Begins};
+    ghost use Rattle.perdoaze_pipes.specs.Submission.{Begins};
     ghost use Rattle.perdoaze_pipes.specs.declared.answer.Answer.TheVariants as answers;
-    ghost use Rattle.perdoaze_pipes.specs.Polling.{PipeOf, IsLeft, IsCollected};
+    ghost use Rattle.perdoaze_pipes.specs.Polls.{PipeOf, IsLeft, IsCollected};
 
     ghost Value = { PipeOf };
 
     ghost view = { λ p. record { id = p.id; order = p.requests; left = drop p.next p.inbox.items } };
 
-    ghost invariant = { λ p. (p.next ≤ length p.inbox.items) × IsLeft p.requests.history (drop p.next p.inbox.items) × (p.may_tell ≡ false → IsCollected p.requests.history) };
+    ghost invariant = { λ p. (p.next ≤ length p.inbox.items)
+        × IsLeft p.requests.history (drop p.next p.inbox.items)
+        × (p.may_tell ≡ false → IsCollected p.requests.history) };
 }
 
 /// Copies all of `from` to the front of `into`.
@@ -56,7 +58,9 @@ fn copy_front(from: &[u8], into: &mut [u8])
 
 /// Tells C of a callback. False where there is no room for its bytes.
 fn tell(callback: &Callback<Finished>, event: &mut Event, out: &mut [u8]) -> bool
-    ensures { MatchBool result (Tells callback.now event.new out.old out.new) (HasNoRoom callback.now event.new out.old × (out.new ≡ out.old)) }
+    ensures { MatchBool result
+        (Tells callback.now event.new out.old out.new)
+        (HasNoRoom callback.now event.new out.old × (out.new ≡ out.old)) }
 {
     let (number, size, kind, status) = match callback {
         Callback::Started(number) => (*number, 0, 1, 0),
@@ -83,8 +87,9 @@ fn tell(callback: &Callback<Finished>, event: &mut Event, out: &mut [u8]) -> boo
 }
 
 impl Pipe {
-    /// A pipe of this kind, of which nothing was asked: 1 is a pad of `lists` reorder lists, 1 to 16; 2 a queue of which `max` requests
-    /// wait before its backlog begins, at least 1; 3 such a queue whose requests go on to such a pad.
+    /// A pipe of this kind, of which nothing was asked: 1 is a pad of `lists` reorder lists, 1 to 16; 2 a queue of
+    /// which `max` requests wait before its backlog begins, at least 1; 3 such a queue whose requests go on to such a
+    /// pad.
     pub fn new(alloc: Global, id: u64, kind: u32, max: u32, lists: u32) -> Result<Pipe, Answer>
         ensures { MatchResult result
             (λ p. Begins (Some p) id kind max lists answers.Done)
@@ -143,7 +148,8 @@ impl Pipe {
     /// Where nothing is left, collects what was told. Answers whether something is left.
     fn refill(&mut self) -> Result<bool, BoardErr>
         ensures { MatchResult result
-            (λ some. IsRefilled self.old self.new × MatchBool some (self.new.left ≢ []) ((self.new.left ≡ []) × IsCollected self.new.order.history))
+            (λ some. IsRefilled self.old self.new
+            × MatchBool some (self.new.left ≢ []) ((self.new.left ≡ []) × IsCollected self.new.order.history))
             (λ _. self.new ≡ self.old) }
     {
         board_laws();
@@ -186,8 +192,11 @@ impl Pipe {
     fn hand_out(&mut self, event: &mut Event, out: &mut [u8]) -> bool
         requires { self.old.left ≢ [] }
         ensures { MatchBool result
-            ((next : Told Outcome) × (self.old.left ≡ next ∷ self.new.left) × (self.new ≡ record self.old { left = self.new.left }) × Tells next event.new out.old out.new)
-            ((self.new ≡ self.old) × ((next : Told Outcome) × (rest : List (Told Outcome)) × (self.old.left ≡ next ∷ rest) × HasNoRoom next event.new out.old) × (out.new ≡ out.old)) }
+            ((next : Told Outcome) × (self.old.left ≡ next ∷ self.new.left)
+            × (self.new ≡ record self.old { left = self.new.left }) × Tells next event.new out.old out.new)
+            ((self.new ≡ self.old)
+            × ((next : Told Outcome) × (rest : List (Told Outcome)) × (self.old.left ≡ next ∷ rest) × HasNoRoom next event.new out.old)
+            × (out.new ≡ out.old)) }
     {
         if !tell(&self.inbox[self.next], event, out) {
             return false;

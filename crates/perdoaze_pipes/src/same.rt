@@ -22,7 +22,8 @@ fn is_same_text(a: &Segs, b: &Segs) -> bool
 
 /// Whether two requests are one, each with its text in one segment.
 fn is_same_request(a: &Request, b: &Request) -> bool
-    ensures { IsTrue result ↔ ((a.now.dir ≡ b.now.dir) × (a.now.iv ≡ b.now.iv) × (a.now.aad ≡ b.now.aad) × (is_same_text a.now.text b.now.text ≡ true)) }
+    ensures { IsTrue result ↔ ((a.now.dir ≡ b.now.dir) × (a.now.iv ≡ b.now.iv) × (a.now.aad ≡ b.now.aad)
+        × (is_same_text a.now.text b.now.text ≡ true)) }
 {
     a.dir == b.dir
         && a.iv.as_slice() == b.iv.as_slice()

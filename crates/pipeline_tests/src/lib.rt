@@ -8,6 +8,8 @@ mod bounded_queue;
 #[cfg(test)]
 mod chains;
 #[cfg(test)]
+mod echo;
+#[cfg(test)]
 mod pads;
 #[cfg(test)]
 mod queues;
@@ -15,3 +17,5 @@ mod queues;
 mod reorder_lists;
 #[cfg(test)]
 mod served_queue;
+#[cfg(test)]
+mod shapes;

@@ -1,8 +1,9 @@
 -- A caller's turns on the registry are its calls.
 use Rattle.std.proofs.Common.{◌≡◌, ℕ, Bool, true, false, List, [], ◌∷◌, ◌++◌, Option, Some, None, Result, Ok, Err, refl, sym, ap, subst, ◌∙◌, append_assoc, append-nil, eq-eqb, inl, inr, ◌⊎◌}
-use Rattle.std.specs.Prelude.{◌==◌, if◌then◌else◌, filter, is_some, slice_get, ◌&&◌, MatchResult, MatchOption, IfOk, IfErr, IsSome, IsFalse}
+use Rattle.std.specs.Prelude.{◌==◌, if◌then◌else◌, filter, is_some, slice_get, MatchResult, MatchOption, IfOk, IfErr, IsSome, IsFalse}
 use Rattle.std.specs.List.{list_all}
 use Rattle.std.specs.Result.{IsErr}
+use Rattle.std.proofs.lemmas.Bool.{and_parts}
 use Rattle.kc_base.specs.declared.error_numbers.Errno.{Errno}
 use Rattle.alg_registry.specs.declared.entry.Enlisted.{Enlisted}
 use Rattle.alg_registry.specs.declared.entry.Enlisted.TheVariants as enlisted
@@ -22,19 +23,19 @@ use Rattle.alg_registry.specs.declared.entry.Looked.{Looked}
 use Rattle.atomic_table.specs.Seated.{TableId}
 use Rattle.templates.specs.declared.build_errors.BuildErr.{BuildErr}
 use Rattle.templates.specs.declared.build_errors.BuildErr.TheVariants as build
-use Rattle.templates.specs.Looking.{Found, Entry, Fault, found_in, found_as, entry_found, is_asked}
-use Rattle.turn_lock.specs.Meeting.{Meets, AtTurn, GoesOn, Enters, Leaves, IsOwn}
+use Rattle.templates.specs.LookResults.{Found, Entry, Fault, found_in, found_as, entry_found, is_asked}
+use Rattle.turn_lock.specs.PassLaws.{Meets, AtTurn, GoesOn, Enters, Leaves, IsOwn}
 use Rattle.turn_lock.specs.Passes.{knows}
 use Rattle.turn_lock.specs.Turns.{Known, of}
-use Rattle.turn_lock.specs.Going.{own_entered, own_left, own_goes}
-use Rattle.shared_registry.specs.Building.{LooksFor, Looks as LooksUp, Works, Resolved, is_building}
+use Rattle.turn_lock.specs.TurnLaws.{own_entered, own_left, own_goes}
+use Rattle.shared_registry.specs.Builds.{LooksFor, Looks as LooksUp, Works, Resolved, is_building}
 use Rattle.shared_registry.specs.Faithful.{IsFaithful}
 use Rattle.dialogues.specs.First.{AreFurther}
 use Rattle.dialogues.specs.GoingOn.{RegisteredStays, RegistryCallsGoOn}
 use Rattle.dialogues.specs.InTurn.{AreInTurn}
 use Rattle.dialogues.specs.RegistryCalls.{RegCall, Enlists, Looks, Unlists, Gets, Puts, Counts, Lists, reg_call_of, reg_calls, reg_calls_from, prepend, is_settled, if_own, AllSettled}
 use Rattle.recorded_calls.specs.Passes.{RegPass, known, lock_of}
-use Rattle.recorded_calls.specs.Asking.{CallLaws, IsCaller, Asked, Asks, Finds, SeesCalls, SeesLook, IsResolved, enlisted_as, unlisted_as, got_as, counted_as, listed_as}
+use Rattle.recorded_calls.specs.RegistryCalls.{CallLaws, IsCaller, Asked, Asks, Finds, SeesCalls, SeesLook, IsResolved, enlisted_as, unlisted_as, got_as, counted_as, listed_as}
 
 -- ---- entries of others are no calls
 
@@ -113,10 +114,6 @@ pub own : {C : Type 0} (n : ℕ) (call : C) → if_own n n call ≡ Some call
 own {C} n call = ap (λ b. if b then Some call else None) (eq-eqb n n refl)
 
 -- ---- calls whose answers but for want of memory are recorded
-
--- a call that asks was made where its answer is recorded
-abbrev pub AskedIf : {A : Type 0} → Known RegEntry → Known RegEntry → (A → List RegCall → Type 0) → Option A → Type 0
-AskedIf k l S o = MatchOption o (Asked k l []) (λ a. (calls : List RegCall) × S a calls × Asked k l calls)
 
 pub recorded : {X A B : Type 0} → CallLaws → (k l : Known RegEntry) (r : Result X RegErr) (seen_as : Result X RegErr → Option A) (make : B → Result X RegErr) (view : B → A) (answer : List RegEntry → B) (e : List RegEntry → RegEntry) (call : B → RegCall)
     → IsCaller k → ((b : B) → seen_as (make b) ≡ Some (view b)) → seen_as (Err Memory) ≡ None
@@ -267,10 +264,6 @@ building-unasked n (entry.Put by id) e = absurd cc
 building-unasked n (entry.Refs by driver) e = absurd cc
 building-unasked n (entry.List by) e = absurd cc
 
-and-true : (a b : Bool) → (a && b) ≡ true → (a ≡ true) × (b ≡ true)
-and-true true b e = (refl, e)
-and-true false b e = absurd cc
-
 -- where a caller's own entries all build, it asked nothing
 pub work-unasked : (n : ℕ) (xs : List RegEntry) → list_all is_building (of caller_of n xs) ≡ true → filter (is_asked n) xs ≡ []
 work-unasked n [] all = refl
@@ -279,7 +272,7 @@ work-unasked n (x ∷ xs) all = by_test (caller_of x == n) refl all (work-unaske
     by_test : (t : Bool) → (caller_of x == n) ≡ t → list_all is_building (if t then x ∷ of caller_of n xs else of caller_of n xs) ≡ true
         → (list_all is_building (of caller_of n xs) ≡ true → filter (is_asked n) xs ≡ []) → filter (is_asked n) (x ∷ xs) ≡ []
     by_test true t q rest =
-        let both = and-true (is_building x) (list_all is_building (of caller_of n xs)) q in
+        let both = and_parts (is_building x) (list_all is_building (of caller_of n xs)) q in
         ap (λ b. if b then x ∷ filter (is_asked n) xs else filter (is_asked n) xs) (building-unasked n x both.0) ∙ rest both.1
     by_test false t q rest = ap (λ b. if b then x ∷ filter (is_asked n) xs else filter (is_asked n) xs) (not-asked n x t) ∙ rest q
 

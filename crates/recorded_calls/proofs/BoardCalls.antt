@@ -1,5 +1,5 @@
 -- Calls of the board's caller, by what its lock says of a turn.
-use Rattle.std.proofs.Common.{◌≡◌, ◌≢◌, inl, inr, ℕ, zero, suc, ◌+◌, Bool, true, false, List, [], ◌∷◌, ◌++◌, length, map, Option, Some, None, Result, Ok, Err, refl, sym, ap, subst, ◌∙◌, append-nil, append_assoc, length-append, arith}
+use Rattle.std.proofs.Common.{◌≡◌, ◌≢◌, inl, inr, ℕ, zero, suc, ◌+◌, Bool, true, false, List, [], ◌∷◌, ◌++◌, length, map, Option, Some, None, Result, Ok, Err, refl, sym, ap, subst, ◌∙◌, append-nil, append_assoc, arith}
 use Rattle.std.specs.Prelude.{◌<◌, ◌≤◌, ◌-◌, ◌^◌, ◌==◌, ◌||◌, ◌↔◌, if◌then◌else◌, IfErr, MatchResult, sum_by, slice_get, unwrap_or}
 use Rattle.std.specs.Arc.{arc_value}
 use Rattle.std.specs.declared.sync.Arc.{Arc}
@@ -16,23 +16,22 @@ use Rattle.board.specs.declared.entry.Shape.{Shape}
 use Rattle.board.specs.declared.entry.Shape.TheVariants.{Pad, Queue, Chain}
 use Rattle.board.specs.Entries.{caller_of, is_close, is_closed, is_held, mask, birth, accepted_in, entries_of, submissions, front, told, delivered}
 use Rattle.board.specs.Allowance.{IsAllowed}
-use Rattle.board.specs.Legal.{IsNoWorker, IsOpen, IsOpenPad, IsOpenQueue, IsOpenAs, LegalBoard, pipelines}
-use Rattle.board.specs.Handing.{is_collect, completions}
+use Rattle.board.specs.Legal.{IsNoWorker, IsOpen, IsOpenPad, IsOpenAs, LegalBoard, pipelines}
+use Rattle.board.specs.HandedOut.{is_collect, completions}
 use Rattle.std.proofs.lemmas.Bool.{eqb-true}
 use Rattle.std.proofs.lemmas.List.Folds.{list_any-append}
-use Rattle.board.specs.Staying.{IsDrained}
+use Rattle.board.specs.PipelineHistory.{IsDrained}
 use Rattle.board.specs.Allowance.{accepted_by}
 use Rattle.std.proofs.lemmas.List.{length-map}
 use Rattle.std.specs.Option.{option_map}
-use Rattle.board.specs.Order.{numbers_below}
 use Rattle.board.specs.Shapes.{IsShape}
 use Rattle.transforms.specs.declared.ask.Ask.{Ask}
 use Rattle.transforms.specs.declared.request.Finished.{Finished}
 use Rattle.transforms.specs.AskValue.{ask_size}
 use Rattle.turn_lock.specs.Turns.{Known, sees}
-use Rattle.turn_lock.specs.Meeting.{AtTurn, Enters, Leaves, IsOwn}
-use Rattle.turn_lock.specs.Going.{still_kept, own_entered}
-use Rattle.crew.specs.Working.{Worked, Drained as CrewDrained}
+use Rattle.turn_lock.specs.PassLaws.{AtTurn, Enters, Leaves, IsOwn}
+use Rattle.turn_lock.specs.TurnLaws.{still_kept, own_entered}
+use Rattle.crew.specs.BoardWork.{Worked, Drained as CrewDrained}
 use Rattle.dialogues.specs.RegistryCalls.{if_own}
 use Rattle.reply_text.specs.declared.origin.Origin.{Origin}
 use Rattle.dialogues.specs.BoardCalls.{BoardCall, Creates, Submits, Enqueues, Holds, Goes, Collects, Closes, Masks, Shuts, Started, Completed, asked_by, outcome, board_calls, notice_of, origin_in, origin_of, collected_to}
@@ -40,9 +39,10 @@ use Rattle.dialogues.specs.ScriptState.{PipelineState}
 use Rattle.recorded_calls.specs.Bounds.{AreWithin}
 use Rattle.recorded_calls.specs.Pipelines.{Laws, IsPipeIn, origin_at, made_so, KnowsPipe, Unchanged, Changed, Closed, IsPad, IsQueue, entered_pipe, entered_asks, with_ask, notice_by, IsShut, Owns, Drained, Polled, Opened}
 use Rattle.recorded_calls.proofs.HandedOut.{hands-within}
-use Rattle.dialogues.specs.Allocating.{new_pipe}
+use Rattle.dialogues.specs.AllocAndFree.{new_pipe}
 use Rattle.board.specs.declared.entry.Entered.{Entered}
 use Rattle.board.specs.declared.entry.Entered.TheVariants.{InProgress, Busy, NoSpace}
+use Rattle.board.proofs.Lists.{length-numbers}
 use Rattle.recorded_calls.proofs.Boarding.{Met, OwnsIn, IsPlain, IsMaskless, goes-kept, opened-more, managed-more, unshared-more, masked-more, lines-more, delivered-more, calls-one, meets-kept, leaves-kept, changed-later, accepted-none, accepted-more, pipe-stays, pipe-accepts, pipe-collected, apart-same, entry-changed}
 
 own : {C : Type 0} (n : ℕ) (call : C) → if_own n n call ≡ Some call
@@ -114,10 +114,6 @@ submit-refused laws k l pipe asked (Err e) O on pad manned turn =
     )
 
 -- ---- `enqueue`
-
-pub open-queue : (bound : Option ℕ) (es : List (BoardEntry Ask)) → IsQueue bound → IsOpenAs (made_so bound) es → IsOpenQueue es
-open-queue None es queue o = absurd queue
-open-queue (Some max) es queue o = o
 
 pub enqueue-refused : Laws → (k l : Known (BoardEntry Ask)) (asked : Ask) (r : Result Entered BoardErr) (V O : List (BoardEntry Ask) → Entered → Type 0)
     → AtTurn caller_of LegalBoard k (λ h. MatchResult r
@@ -208,10 +204,6 @@ drained-changed laws k l pipe h on meets all enters =
     ∙ (ap (λ ns. Some (Collects pipe.number (record { notices = ns; all_done = front es == length (submissions es) }))) (notices-are (submissions es) pipe.lines callbacks here.lines)
     ∙ ap (λ b. Some (Collects pipe.number (record { notices = map (notice_by pipe.lines) callbacks; all_done = b }))) (eq-eqb (front es) (length (submissions es)) all)))
     (accepted-none k.number h (event.Collect k.number pipe.number to) refl) refl (pipe-collected laws k.number h pipe to enters.1 here))
-
-pub length-numbers : (n : ℕ) → length (numbers_below n) ≡ n
-length-numbers zero = refl
-length-numbers (suc n) = let all = length-append (numbers_below n) (n ∷ []) in let rest = length-numbers n in omega (arith, all, rest)
 
 -- it has handed all out
 drained-all : Laws → (k : Known (BoardEntry Ask)) (pipe : PipelineState) (h : List (BoardEntry Ask)) → KnowsPipe k pipe → Met k h → front (entries_of pipe.number h) ≡ length (submissions (entries_of pipe.number h))

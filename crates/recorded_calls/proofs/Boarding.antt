@@ -1,7 +1,7 @@
 -- What a caller knows of its pipelines goes on, whatever others do.
 use Rattle.std.proofs.Common.{◌≡◌, ℕ, ◌+◌, Bool, true, false, List, [], ◌∷◌, ◌++◌, length, map, Option, Some, None, refl, sym, ap, subst, ◌∙◌, append_assoc, append-nil}
-use Rattle.std.specs.Prelude.{◌==◌, ◌&&◌, ◌||◌, if◌then◌else◌, filter, unwrap_or}
-use Rattle.std.proofs.lemmas.Bool.{eq-eqb}
+use Rattle.std.specs.Prelude.{◌==◌, ◌||◌, if◌then◌else◌, filter, unwrap_or}
+use Rattle.std.proofs.lemmas.Bool.{eq-eqb, and_parts}
 use Rattle.std.proofs.lemmas.List.{map-append}
 use Rattle.std.proofs.lemmas.List.Elements.{filter-append, filter_map-append}
 use Rattle.std.proofs.lemmas.List.Folds.{list_any-append}
@@ -10,19 +10,19 @@ use Rattle.board.specs.declared.entry.BoardEntry.TheVariants as event
 use Rattle.board.specs.declared.entry.Shape.{Shape}
 use Rattle.board.specs.Entries.{is_of, entries_of, accepted_in, birth_in, birth, first, submissions, held_in, masked_in, mask, is_close, is_closed, is_share, is_shared, delivered, caller_of, maker_is}
 use Rattle.board.specs.Allowance.{accepted_by, accepted_from}
-use Rattle.board.specs.Staying.{is_work}
+use Rattle.board.specs.PipelineHistory.{is_work}
 use Rattle.board.specs.Legal.{IsOpenAs, MayManage, LegalBoard, is_shut, is_shut_entry}
 use Rattle.board.specs.Order.{handed_out, completed}
-use Rattle.board.specs.Handing.{is_collect, completions}
+use Rattle.board.specs.HandedOut.{is_collect, completions}
 use Rattle.std.specs.List.{cons_option, filter_map, list_all}
 use Rattle.transforms.specs.declared.ask.Ask.{Ask}
 use Rattle.turn_lock.specs.Turns.{Known, StartsWith, sees, adds, of}
-use Rattle.turn_lock.specs.Meeting.{Meets, GoesOn, Enters, Leaves}
-use Rattle.turn_lock.specs.Going.{goes_left, goes_entered}
+use Rattle.turn_lock.specs.PassLaws.{Meets, GoesOn, Enters, Leaves}
+use Rattle.turn_lock.specs.TurnLaws.{goes_left}
 use Rattle.dialogues.specs.RegistryCalls.{prepend}
 use Rattle.dialogues.specs.BoardCalls.{BoardCall, origin_of, outcome, is_called, board_call_of, board_calls}
 use Rattle.dialogues.specs.ScriptState.{PipelineState}
-use Rattle.recorded_calls.specs.Pipelines.{Laws, IsPad, IsPipeIn, Called, made_so, KnowsPipe, Unchanged, Changed}
+use Rattle.recorded_calls.specs.Pipelines.{Laws, IsPad, IsPipeIn, Called, made_so, Unchanged, Changed}
 
 -- ---- calls
 
@@ -82,10 +82,6 @@ work-called n (event.Share by pipe) w = absurd cc
 work-called n (event.Mask by pipe mask) w = absurd cc
 work-called n (event.Shut by) w = absurd cc
 
-and-true : (a b : Bool) → (a && b) ≡ true → (a ≡ true) × (b ≡ true)
-and-true true b e = (refl, e)
-and-true false b e = absurd cc
-
 -- where a caller's own entries are work, it called nothing
 pub work-uncalled : (n : ℕ) (xs : List (BoardEntry Ask)) → list_all (λ e. is_work e) (of caller_of n xs) ≡ true → filter (is_called n) xs ≡ []
 work-uncalled n [] all = refl
@@ -94,7 +90,7 @@ work-uncalled n (x ∷ xs) all = by_test (caller_of x == n) refl all (work-uncal
     by_test : (t : Bool) → (caller_of x == n) ≡ t → list_all (λ e. is_work e) (if t then x ∷ of caller_of n xs else of caller_of n xs) ≡ true
         → (list_all (λ e. is_work e) (of caller_of n xs) ≡ true → filter (is_called n) xs ≡ []) → filter (is_called n) (x ∷ xs) ≡ []
     by_test true t q rest =
-        let both = and-true (is_work x) (list_all (λ e. is_work e) (of caller_of n xs)) q in
+        let both = and_parts (is_work x) (list_all (λ e. is_work e) (of caller_of n xs)) q in
         ap (λ b. if b then x ∷ filter (is_called n) xs else filter (is_called n) xs) (work-called n x both.0) ∙ rest both.1
     by_test false t q rest = ap (λ b. if b then x ∷ filter (is_called n) xs else filter (is_called n) xs) (not-called n x t) ∙ rest q
 
@@ -127,11 +123,11 @@ no-birth n p [] works maker = absurd maker
 no-birth n p (e ∷ es) works maker = by_of (is_of p e) maker (no-birth n p es (later_works (caller_of e == n) works))
   where
     later_works : (t : Bool) → list_all (λ e. is_work e) (if t then e ∷ of caller_of n es else of caller_of n es) ≡ true → list_all (λ e. is_work e) (of caller_of n es) ≡ true
-    later_works true w = (and-true (is_work e) (list_all (λ e. is_work e) (of caller_of n es)) w).1
+    later_works true w = (and_parts (is_work e) (list_all (λ e. is_work e) (of caller_of n es)) w).1
     later_works false w = w
 
     own-works : (t : Bool) → t ≡ true → list_all (λ e. is_work e) (if t then e ∷ of caller_of n es else of caller_of n es) ≡ true → is_work e ≡ true
-    own-works true t w = (and-true (is_work e) (list_all (λ e. is_work e) (of caller_of n es)) w).0
+    own-works true t w = (and_parts (is_work e) (list_all (λ e. is_work e) (of caller_of n es)) w).0
     own-works false t w = absurd cc
 
     by_birth : (b : Option (ℕ × Shape)) → birth_in e ≡ b → maker_is (first (cons_option b (filter_map birth_in (entries_of p es)))) n → (maker_is (birth (entries_of p es)) n → ⊥) → ⊥
@@ -208,12 +204,6 @@ leaves-kept laws k l h met leaves =
 pub meets-kept : Laws → (k : Known (BoardEntry Ask)) (h : List (BoardEntry Ask)) → Met k h → Unchanged k (sees k h)
 meets-kept laws k h met = leaves-kept laws k (sees k h) h met refl
 
--- the caller worked
-pub work-kept : Laws → (k l : Known (BoardEntry Ask)) (h : List (BoardEntry Ask)) (e : BoardEntry Ask) → Met k h → Enters LegalBoard k h e l → is_work e ≡ true → caller_of e ≡ k.number → Unchanged k l
-work-kept laws k l h e met enters works mine =
-    goes-kept laws k l (e ∷ []) (goes_entered caller_of LegalBoard k l (λ x. e) (h, met, enters) mine) (ap (λ b. b && true) works)
-    (subst LegalBoard (sym (ap (λ (x : Known (BoardEntry Ask)). x.seen) enters.0)) enters.1)
-
 pub kept-same : (k : Known (BoardEntry Ask)) → LegalBoard k.seen → Unchanged k k
 kept-same k legal =
     record {
@@ -247,19 +237,6 @@ changed-later k l m pipe pipe' calls asks first later =
       owned = λ p apart owns. first.owned p (later.owned p apart owns);
       accepted = later.accepted ∙ ap (λ a. a ++ asks) first.accepted;
       unshut = λ zero_is. later.unshut (first.called.number ∙ zero_is) ∙ first.unshut zero_is;
-    }
-
-pub kept-changed : (k l : Known (BoardEntry Ask)) (pipe : PipelineState) → KnowsPipe k pipe → Unchanged k l → Changed k l pipe pipe [] []
-kept-changed k l pipe on kept =
-    record {
-      called = kept.called;
-      legal = kept.legal;
-      same = refl;
-      now = kept.pipes pipe on;
-      others = λ other apart was. kept.pipes other was;
-      owned = λ p apart owns. kept.owned p owns;
-      accepted = kept.accepted ∙ sym (append-nil (accepted_by k.number k.seen));
-      unshut = kept.unshut;
     }
 
 -- ---- an entry of one's own

@@ -1,6 +1,6 @@
 -- What a caller shares, once the others have ended and workers alone are left.
-use Rattle.std.proofs.Common.{◌≡◌, inl, inr, ℕ, ◌+◌, Bool, true, false, List, [], ◌∷◌, ◌++◌, length, map, Option, Some, None, Result, Ok, Err, refl, sym, ap, subst, ◌∙◌, append-nil, append_assoc}
-use Rattle.std.specs.Prelude.{◌==◌, ◌<◌, ◌≤◌, ◌&&◌, if◌then◌else◌, IfOk, IsOk, MatchResult}
+use Rattle.std.proofs.Common.{◌≡◌, ℕ, ◌+◌, Bool, true, false, List, [], ◌∷◌, ◌++◌, length, map, Some, None, Result, Ok, Err, refl, sym, ap, subst, ◌∙◌, append-nil, append_assoc}
+use Rattle.std.specs.Prelude.{◌==◌, ◌<◌, if◌then◌else◌, IfOk, IsOk, MatchResult}
 use Rattle.std.specs.Arc.{arc_value}
 use Rattle.std.specs.declared.sync.Arc.{Arc}
 use Rattle.std.specs.declared.alloc.Global.{Global}
@@ -14,25 +14,26 @@ use Rattle.board.specs.declared.board_core.BoardErr.TheVariants.{Memory}
 use Rattle.board.specs.declared.entry.BoardEntry.{BoardEntry}
 use Rattle.board.specs.declared.entry.BoardEntry.TheVariants as event
 use Rattle.board.specs.Alone.{PeersGone}
-use Rattle.board.specs.Entries.{is_of, entries_of, submissions, front, told, delivered, caller_of, accepted_in, is_shared, mask}
-use Rattle.board.specs.Handing.{completions}
-use Rattle.board.specs.Legal.{IsOpenAs, MayManage, LegalBoard, is_shut, is_shut_entry}
-use Rattle.board.specs.Order.{HandsOutInOrder, handed_out, completed, numbers_below}
-use Rattle.board.specs.Staying.{is_work}
-use Rattle.crew.specs.Working.{Worked, Drained as CrewDrained}
+use Rattle.board.specs.Entries.{is_of, entries_of, submissions, front, told, delivered, caller_of}
+use Rattle.board.specs.HandedOut.{completions}
+use Rattle.board.specs.Legal.{LegalBoard, is_shut_entry}
+use Rattle.board.specs.Order.{HandsOutInOrder, completed, numbers_below}
+use Rattle.board.specs.PipelineHistory.{is_work}
+use Rattle.board.proofs.Lists.{length-numbers}
+use Rattle.crew.specs.BoardWork.{Worked, Drained as CrewDrained}
 use Rattle.transforms.specs.declared.ask.Ask.{Ask}
 use Rattle.transforms.specs.declared.request.Finished.{Finished}
-use Rattle.turn_lock.specs.Turns.{Known, StartsWith, Shows, Has, sees, adds, of}
-use Rattle.turn_lock.specs.Meeting.{Meets, AtTurn, Enters, Leaves, IsOwn}
-use Rattle.turn_lock.specs.Going.{still_kept}
+use Rattle.turn_lock.specs.Turns.{Known, Has, sees, adds, of}
+use Rattle.turn_lock.specs.PassLaws.{AtTurn, Enters, Leaves, IsOwn}
+use Rattle.turn_lock.specs.TurnLaws.{still_kept}
 use Rattle.reply_text.specs.declared.origin.Origin.{Origin}
 use Rattle.dialogues.specs.RegistryCalls.{if_own}
-use Rattle.dialogues.specs.BoardCalls.{BoardCall, Goes, Collects, outcome, origin_of, collected_to, board_call_of, board_calls}
+use Rattle.dialogues.specs.BoardCalls.{BoardCall, Goes, Collects, outcome, origin_of, collected_to, board_call_of}
 use Rattle.dialogues.specs.ScriptState.{PipelineState}
-use Rattle.recorded_calls.specs.Pipelines.{Laws, IsPad, made_so, notice_by, Unchanged, Called, Owns}
-use Rattle.recorded_calls.specs.Sharing.{SharingLaws, IsLentIn, KnowsLent, IsGatheredIn, KnowsGathered, HaveEnded, Beside, Gathers, DrainedLent, GatheredHandsAll}
-use Rattle.recorded_calls.proofs.Boarding.{Met, OwnsIn, called-more, calls-one, goes-kept, meets-kept, leaves-kept, kept-more, apart-same, shared-more, asks-same}
-use Rattle.recorded_calls.proofs.BoardCalls.{notices-are, length-numbers}
+use Rattle.recorded_calls.specs.Pipelines.{Laws, made_so, notice_by, Unchanged}
+use Rattle.recorded_calls.specs.SharedCalls.{SharingLaws, IsLentIn, KnowsLent, IsGatheredIn, KnowsGathered, HaveEnded, Beside, Gathers, DrainedLent, GatheredHandsAll}
+use Rattle.recorded_calls.proofs.Boarding.{Met, OwnsIn, called-more, calls-one, goes-kept, meets-kept, kept-more, apart-same, shared-more, asks-same}
+use Rattle.recorded_calls.proofs.BoardCalls.{notices-are}
 use Rattle.recorded_calls.proofs.Lendings.{lent-works, lent-at}
 
 own : {C : Type 0} (n : ℕ) (call : C) → if_own n n call ≡ Some call

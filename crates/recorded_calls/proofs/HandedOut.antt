@@ -13,9 +13,12 @@ use Rattle.board.specs.declared.entry.BoardEntry.TheVariants as event
 use Rattle.board.specs.declared.entry.Entered.TheVariants.{InProgress, Busy, NoSpace}
 use Rattle.board.specs.declared.entry.Shape.{Shape}
 use Rattle.board.specs.Allowance.{accepted_from, accepted_by}
-use Rattle.board.specs.Entries.{pipe_of, is_pipe, is_of, entries_of, birth_in, first, birth, accepted_in, submissions, dequeued_in, dequeues, finished, has, unbroken, front, Notice, Starts, Completes, completes_from, tells, told_after, told, collected, is_share, is_shared, maker_is, IsMaker, caller_of, completion, meaning_at, callback_of, delivered}
+use Rattle.board.specs.Entries.{pipe_of, is_pipe, is_of, entries_of, birth_in, first, birth, accepted_in, submissions, dequeued_in, dequeues, finished, front, Notice, Starts, Completes, tells, told_after, told, collected, is_share, is_shared, maker_is, IsMaker, caller_of, completion, meaning_at, callback_of, delivered}
 use Rattle.board.specs.Legal.{IsRightFor, IsRightOn, LegalBoard}
 use Rattle.board.specs.Order.{completed, numbers_below, started_in, started}
+use Rattle.board.proofs.Lists.{length-numbers}
+use Rattle.board.proofs.Counting.{filter_map-at_most}
+use Rattle.board.proofs.Fronts.{none_started, unbroken-le}
 use Rattle.transforms.specs.AskValue.{ask_size}
 use Rattle.transforms.specs.Finish.{finished_length}
 use Rattle.transforms.specs.declared.ask.Ask.{Ask}
@@ -140,10 +143,6 @@ both_kinds [] = refl
 both_kinds (Starts n ∷ ns) = (let rest = both_kinds ns in omega arith)
 both_kinds (Completes n ∷ ns) = (let rest = both_kinds ns in omega arith)
 
-none_started : (n many : ℕ) → started (completes_from n many) ≡ []
-none_started n zero = refl
-none_started n (suc many) = none_started (suc n) many
-
 -- only what leaves the line starts another
 starts_one : (es : List (BoardEntry Ask)) (e : BoardEntry Ask) → length (started (tells es e)) ≤ length (dequeues (e ∷ []))
 starts_one es (event.Born by pipe shape) = omega arith
@@ -174,24 +173,12 @@ starts_few before (e ∷ es) =
     let all = length-append (dequeues (e ∷ [])) (dequeues es) in
     omega arith
 
-unbroken-few : (ns : List ℕ) (n many : ℕ) → unbroken ns n many ≤ many
-unbroken-few ns n zero = omega arith
-unbroken-few ns n (suc many) = by_test (has n ns) (unbroken-few ns (suc n) many)
-  where
-    by_test : (t : Bool) → unbroken ns (suc n) many ≤ many → (if t then suc (unbroken ns (suc n) many) else 0) ≤ suc many
-    by_test true rest = omega (arith, rest)
-    by_test false rest = omega arith
-
-length-numbers : (n : ℕ) → length (numbers_below n) ≡ n
-length-numbers zero = refl
-length-numbers (suc n) = (let rest = length-numbers n in let sums = length-append (numbers_below n) (n ∷ []) in omega arith)
-
 told_few : Steps → (h : List (BoardEntry Ask)) (p : ℕ) → LegalBoard h → length (told (entries_of p h)) ≤ 2 * length (submissions (entries_of p h))
 told_few laws h p legal =
     let es = entries_of p h in
     let kinds = both_kinds (told es) in
     let done : length (completed (told es)) ≡ front es = ap length (laws.order h p legal) ∙ length-numbers (front es) in
-    let below : front es ≤ length (submissions es) = unbroken-few (finished es) 0 (length (submissions es)) in
+    let below : front es ≤ length (submissions es) = unbroken-le (finished es) 0 (length (submissions es)) in
     let starts : length (started (told es)) ≤ length (dequeues es) = starts_few [] es in
     let left : length (dequeues es) ≤ length (submissions es) = (laws.leave h p legal).1 in
     omega (arith, kinds, done, below, starts, left)
@@ -252,14 +239,6 @@ part-weighs f xs from to = omega (arith, sum_by-take-drop f (take to xs) from, s
 part-length : {X : Type 0} (xs : List X) (from to : ℕ) → length (drop from (take to xs)) ≤ length xs
 part-length xs from to = omega (arith, length-drop from (take to xs), length-take to xs)
 
-kept-step : {Y : Type 0} (o : Option Y) (ys : List Y) (n : ℕ) → length ys ≤ n → length (cons_option o ys) ≤ suc n
-kept-step None ys n less = omega (arith, less)
-kept-step (Some y) ys n less = omega (arith, less)
-
-kept-length : {X Y : Type 0} (f : X → Option Y) (xs : List X) → length (filter_map f xs) ≤ length xs
-kept-length f [] = omega arith
-kept-length f (x ∷ xs) = kept-step (f x) (filter_map f xs) (length xs) (kept-length f xs)
-
 told_short : Laws → (h : List (BoardEntry Ask)) (p : ℕ) → LegalBoard h
     → sum_by (notice_length (submissions (entries_of p h))) (told (entries_of p h)) ≤ sum_by ask_size (submissions (entries_of p h)) + 64 * length (submissions (entries_of p h))
 told_short laws h p legal =
@@ -277,6 +256,6 @@ hands-within laws caller h p to legal maker unshared =
     let part = drop (collected es) (take to (told es)) in
     let lighter = weighs laws.steps ask_size p caller h legal unshared (made-by (birth es) caller maker) in
     record {
-      few = omega (arith, kept-length (callback_of outcome asks) part, part-length (told es) (collected es) to, told_few laws.steps h p legal);
+      few = omega (arith, filter_map-at_most (callback_of outcome asks) part, part-length (told es) (collected es) to, told_few laws.steps h p legal);
       short = omega (arith, handed-length asks part, part-weighs (notice_length asks) (told es) (collected es) to, told_short laws h p legal, lighter);
     }

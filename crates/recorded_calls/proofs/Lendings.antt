@@ -1,5 +1,5 @@
 -- A caller shares one of its pipelines, and knows it again once the others have ended.
-use Rattle.std.proofs.Common.{◌≡◌, ◌≢◌, inl, inr, ℕ, ◌+◌, Bool, true, false, List, [], ◌∷◌, ◌++◌, length, map, Option, Some, None, Result, Ok, Err, refl, sym, ap, subst, ◌∙◌, append-nil, append_assoc}
+use Rattle.std.proofs.Common.{◌≡◌, inr, ℕ, Bool, true, false, List, [], ◌∷◌, ◌++◌, length, Some, None, Result, Ok, Err, refl, sym, ap, subst, ◌∙◌, append-nil}
 use Rattle.std.specs.Prelude.{◌==◌, ◌||◌, if◌then◌else◌, MatchResult}
 use Rattle.std.specs.List.{list_all}
 use Rattle.std.proofs.lemmas.Bool.{eq-eqb, eqb-true}
@@ -8,20 +8,20 @@ use Rattle.board.specs.declared.board_core.BoardErr.{BoardErr}
 use Rattle.board.specs.declared.board_core.BoardErr.TheVariants.{Memory}
 use Rattle.board.specs.declared.entry.BoardEntry.{BoardEntry}
 use Rattle.board.specs.declared.entry.BoardEntry.TheVariants as event
-use Rattle.board.specs.Entries.{is_of, entries_of, submissions, caller_of, is_close, is_closed, is_share, is_shared, birth, mask}
+use Rattle.board.specs.Entries.{is_of, entries_of, caller_of, is_closed, is_share, is_shared}
 use Rattle.board.specs.Allowance.{accepted_by}
-use Rattle.board.specs.Legal.{IsOpenAs, MayManage, LegalBoard}
-use Rattle.board.specs.Order.{handed_out, completed}
-use Rattle.board.specs.Staying.{is_work}
+use Rattle.board.specs.Legal.{MayManage, LegalBoard}
+use Rattle.board.specs.Order.{completed}
+use Rattle.board.specs.PipelineHistory.{is_work}
 use Rattle.transforms.specs.declared.ask.Ask.{Ask}
-use Rattle.turn_lock.specs.Turns.{Known, StartsWith, sees, adds, of}
-use Rattle.turn_lock.specs.Meeting.{Meets, AtTurn, GoesOn, Enters, Leaves, IsOwn}
-use Rattle.turn_lock.specs.Going.{none_after, starts_through}
+use Rattle.turn_lock.specs.Turns.{Known, sees, adds, of}
+use Rattle.turn_lock.specs.PassLaws.{AtTurn, GoesOn, Enters, Leaves, IsOwn}
+use Rattle.turn_lock.specs.TurnLaws.{none_after, starts_through}
 use Rattle.dialogues.specs.RegistryCalls.{if_own}
-use Rattle.dialogues.specs.BoardCalls.{BoardCall, Shares}
+use Rattle.dialogues.specs.BoardCalls.{Shares}
 use Rattle.dialogues.specs.ScriptState.{PipelineState}
-use Rattle.recorded_calls.specs.Pipelines.{Laws, IsPipeIn, IsPad, IsQueue, made_so, KnowsPipe, Unchanged, Called, Owns}
-use Rattle.recorded_calls.specs.Sharing.{SharingLaws, IsSharedIn, KnowsShared, IsLentIn, KnowsLent, Rejoined, Rejoins, Lends, LentIsShared}
+use Rattle.recorded_calls.specs.Pipelines.{IsPipeIn, made_so, KnowsPipe, Unchanged}
+use Rattle.recorded_calls.specs.SharedCalls.{SharingLaws, IsSharedIn, IsLentIn, KnowsLent, Rejoined, Rejoins, Lends, LentIsShared}
 use Rattle.recorded_calls.proofs.Boarding.{Met, OwnsIn, goes-kept, called-more, calls-one, meets-kept, leaves-kept, accepted-none, apart-same}
 
 own : {C : Type 0} (n : ℕ) (call : C) → if_own n n call ≡ Some call
@@ -30,10 +30,6 @@ own {C} n call = ap (λ b. if b then Some call else None) (eq-eqb n n refl)
 or-true : (b : Bool) → (b || true) ≡ true
 or-true true = refl
 or-true false = refl
-
-or-left : (a b : Bool) → (a || b) ≡ false → a ≡ false
-or-left false b e = refl
-or-left true b e = absurd cc
 
 -- ---- a pipeline that is lent, while others go on
 

@@ -1,31 +1,31 @@
 -- Calls on pipelines that are shared, by what the lock says of a turn.
-use Rattle.std.proofs.Common.{◌≡◌, ◌≢◌, inl, inr, ℕ, zero, suc, ◌+◌, Bool, true, false, List, [], ◌∷◌, ◌++◌, length, map, Option, Some, None, Result, Ok, Err, is_some, refl, sym, ap, subst, ◌∙◌, append-nil, append_assoc, arith}
-use Rattle.std.specs.Prelude.{◌<◌, ◌≤◌, ◌^◌, ◌==◌, ◌||◌, ◌↔◌, if◌then◌else◌, IfErr, MatchResult, sum_by}
+use Rattle.std.proofs.Common.{◌≡◌, ◌≢◌, ℕ, zero, suc, ◌+◌, Bool, true, false, List, [], ◌∷◌, ◌++◌, length, Option, Some, None, Result, Ok, Err, is_some, refl, sym, ap, subst, ◌∙◌, arith}
+use Rattle.std.specs.Prelude.{◌<◌, ◌≤◌, ◌^◌, ◌==◌, ◌||◌, ◌↔◌, if◌then◌else◌, MatchResult, sum_by}
 use Rattle.std.specs.Arc.{arc_value}
 use Rattle.std.specs.declared.sync.Arc.{Arc}
 use Rattle.std.specs.declared.alloc.Global.{Global}
 use Rattle.std.proofs.lemmas.Bool.{eq-eqb, eqb-true}
 use Rattle.std.proofs.lemmas.List.Folds.{list_any-append}
 use Rattle.board.specs.declared.board_core.BoardErr.{BoardErr}
-use Rattle.board.specs.declared.board_core.BoardErr.TheVariants.{NoWorker, TooBig, Memory}
+use Rattle.board.specs.declared.board_core.BoardErr.TheVariants.{NoWorker, TooBig}
 use Rattle.board.specs.declared.entry.BoardEntry.{BoardEntry}
 use Rattle.board.specs.declared.entry.BoardEntry.TheVariants as event
 use Rattle.board.specs.declared.entry.Shape.{Shape}
-use Rattle.board.specs.Entries.{is_of, entries_of, submissions, caller_of, accepted_in, birth, birth_in, maker_is, is_close, is_closed, is_share, is_shared, mask, masked_in}
+use Rattle.board.specs.Entries.{is_of, entries_of, submissions, caller_of, accepted_in, birth, maker_is, is_close, is_closed, is_shared, mask}
 use Rattle.board.specs.Allowance.{IsAllowed, accepted_by}
-use Rattle.board.specs.Legal.{IsOpenAs, MayManage, MaySubmit, LegalBoard, is_shut, is_shut_entry}
+use Rattle.board.specs.Legal.{LegalBoard, is_shut_entry}
 use Rattle.board.specs.Shapes.{is_born}
 use Rattle.transforms.specs.declared.ask.Ask.{Ask}
 use Rattle.transforms.specs.AskValue.{ask_size}
 use Rattle.turn_lock.specs.Turns.{Known, StartsWith, sees, adds, of}
-use Rattle.turn_lock.specs.Meeting.{Meets, AtTurn, Enters, Leaves}
+use Rattle.turn_lock.specs.PassLaws.{AtTurn, Enters, Leaves}
 use Rattle.dialogues.specs.RegistryCalls.{if_own}
 use Rattle.board.specs.declared.entry.Entered.{Entered}
 use Rattle.board.specs.declared.entry.Entered.TheVariants.{InProgress, Busy, NoSpace}
-use Rattle.dialogues.specs.BoardCalls.{BoardCall, Submits, Enqueues, Shares, asked_by, board_call_of}
+use Rattle.dialogues.specs.BoardCalls.{BoardCall, Submits, Enqueues, asked_by, board_call_of}
 use Rattle.dialogues.specs.ScriptState.{PipelineState}
-use Rattle.recorded_calls.specs.Pipelines.{Laws, IsPipeIn, IsPad, IsQueue, made_so, KnowsPipe, Unchanged, Called, Owns, entered_asks}
-use Rattle.recorded_calls.specs.Sharing.{SharingLaws, IsSharedIn, KnowsShared, Gave, IsLentIn, KnowsLent, Lends}
+use Rattle.recorded_calls.specs.Pipelines.{Laws, IsPipeIn, IsPad, made_so, Unchanged, entered_asks}
+use Rattle.recorded_calls.specs.SharedCalls.{SharingLaws, IsSharedIn, KnowsShared, Gave}
 use Rattle.recorded_calls.proofs.Boarding.{Met, OwnsIn, called-more, calls-one, meets-kept, leaves-kept, accepted-none, accepted-more, apart-same}
 
 own : {C : Type 0} (n : ℕ) (call : C) → if_own n n call ≡ Some call

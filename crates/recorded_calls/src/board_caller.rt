@@ -6,7 +6,7 @@ ghost use Rattle.kc_base.specs.declared.callback_list.Callback.{Callback as Told
 ghost use Rattle.board.specs.Allowance.{IsAllowed, accepted_by};
 ghost use Rattle.board.specs.Alone.{PeersGone};
 ghost use Rattle.board.specs.Entries.{entries_of, birth};
-ghost use Rattle.board.specs.Handing.{completions};
+ghost use Rattle.board.specs.HandedOut.{completions};
 ghost use Rattle.board.specs.Legal.{IsNoWorker, LegalBoard, is_shut};
 ghost use Rattle.board.specs.declared.board_core.BoardErr.TheVariants as BoardErr;
 ghost use Rattle.board.specs.declared.entry.Shape.TheVariants.{Pad as PadOf, Queue as QueueOf, Chain as ChainOf};
@@ -18,7 +18,7 @@ ghost use Rattle.dialogues.specs.ScriptState.{PipelineState as KnownPipe};
 ghost use Rattle.recorded_calls.specs.Bounds.{AreWithin};
 ghost use Rattle.recorded_calls.specs.Passes.{CallsBoard, known, lock_of};
 ghost use Rattle.recorded_calls.specs.Pipelines.{Laws, Steps, IsPad, IsQueue, KnowsPipe, Unchanged, Changed, Closed, IsShut, Opened, with_ask, entered_pipe, entered_asks, Drained, Polled};
-ghost use Rattle.recorded_calls.specs.Sharing.{KnowsGathered};
+ghost use Rattle.recorded_calls.specs.SharedCalls.{KnowsGathered};
 
 use crate::pipe::PipelineView;
 use crate::shared_calls::sharing_laws;
@@ -95,6 +95,14 @@ impl BoardCaller {
         self.pass.unwrap()
     }
 
+    // Takes the caller's pass for a call, which gives one back.
+    pub(crate) fn take_pass(&mut self) -> BoardPass<Job>
+        requires { IsSome self.old }
+        ensures { self.old ≡ Some result }
+    {
+        self.pass.take().unwrap()
+    }
+
     /// Makes a pad of `lists` reorder lists, 1 to 16, and answers its number. Only want of memory refuses.
     pub fn born_pad<R: Wait>(
         &mut self,
@@ -112,14 +120,14 @@ impl BoardCaller {
             (λ e. (e ≡ BoardErr.Memory) × Unchanged (known self.old) (known self.new)) }
     {
         board_laws();
-        let pass = self.pass.take().unwrap();
+        let pass = self.take_pass();
         let (pass, answer) = board.born_pad(rt, pass, lists);
         self.pass = Some(pass);
         answer
     }
 
-    /// Makes a queue in which so many requests may wait before it is full, at least 1, and answers its number. Only want of
-    /// memory refuses.
+    /// Makes a queue in which so many requests may wait before it is full, at least 1, and answers its number. Only
+    /// want of memory refuses.
     pub fn born_queue<R: Wait>(
         &mut self,
         rt: &R,
@@ -135,14 +143,14 @@ impl BoardCaller {
             (λ e. (e ≡ BoardErr.Memory) × Unchanged (known self.old) (known self.new)) }
     {
         board_laws();
-        let pass = self.pass.take().unwrap();
+        let pass = self.take_pass();
         let (pass, answer) = board.born_queue(rt, pass, max);
         self.pass = Some(pass);
         answer
     }
 
-    /// Makes a chain, and answers its number: a queue in which so many requests may wait before it is full, at least 1, and a pad of
-    /// `lists` reorder lists, 1 to 16, to which they go on. Only want of memory refuses.
+    /// Makes a chain, and answers its number: a queue in which so many requests may wait before it is full, at least 1,
+    /// and a pad of `lists` reorder lists, 1 to 16, to which they go on. Only want of memory refuses.
     pub fn born_chain<R: Wait>(
         &mut self,
         rt: &R,
@@ -161,15 +169,15 @@ impl BoardCaller {
             (λ e. (e ≡ BoardErr.Memory) × Unchanged (known self.old) (known self.new)) }
     {
         board_laws();
-        let pass = self.pass.take().unwrap();
+        let pass = self.take_pass();
         let (pass, answer) = board.born_chain(rt, pass, max, lists);
         self.pass = Some(pass);
         answer
     }
 
-    /// Hands a job in to a pad of the caller's, from which some worker may take, and answers its number. `TooBig` exactly where
-    /// the caller's allowance has no room for the job, otherwise `Memory`; `NoWorker` never. An error drops the job, and leaves
-    /// the caller's pipelines as they were.
+    /// Hands a job in to a pad of the caller's, from which some worker may take, and answers its number. `TooBig`
+    /// exactly where the caller's allowance has no room for the job, otherwise `Memory`; `NoWorker` never. An error
+    /// drops the job, and leaves the caller's pipelines as they were.
     pub fn submit<R: Wait>(
         &mut self,
         rt: &R,
@@ -191,15 +199,15 @@ impl BoardCaller {
         ensures served { IfErr result (λ e. e ≢ BoardErr.NoWorker) }
     {
         board_laws();
-        let pass = self.pass.take().unwrap();
+        let pass = self.take_pass();
         let (pass, answer) = board.submit(rt, pass, pipe.number, job);
         self.pass = Some(pass);
         answer
     }
 
-    /// Hands a job in to a queue or a chain of the caller's, and answers its verdict. `TooBig` exactly where the caller's allowance
-    /// has no room for the job, otherwise `Memory`; `NoWorker` never. An error drops the job, and leaves the caller's pipelines as
-    /// they were.
+    /// Hands a job in to a queue or a chain of the caller's, and answers its verdict. `TooBig` exactly where the
+    /// caller's allowance has no room for the job, otherwise `Memory`; `NoWorker` never. An error drops the job, and
+    /// leaves the caller's pipelines as they were.
     pub fn enqueue<R: Wait>(
         &mut self,
         rt: &R,
@@ -221,7 +229,7 @@ impl BoardCaller {
         ensures served { IfErr result (λ e. e ≢ BoardErr.NoWorker) }
     {
         board_laws();
-        let pass = self.pass.take().unwrap();
+        let pass = self.take_pass();
         let (pass, answer) = board.enqueue(rt, pass, pipe.number, job, backlog);
         self.pass = Some(pass);
         answer
@@ -237,12 +245,12 @@ impl BoardCaller {
         ensures closed { Closed (known self.old) (known self.new) pipe.now }
     {
         board_laws();
-        let pass = self.pass.take().unwrap();
+        let pass = self.take_pass();
         self.pass = Some(board.close(rt, pass, pipe.number));
     }
 
-    /// From now on the workers whose bits are set may take from a pad of the caller's, bit i for worker i + 1; no bit stands at or
-    /// above the number of lists that it was made with. Only want of memory refuses.
+    /// From now on the workers whose bits are set may take from a pad of the caller's, bit i for worker i + 1; no bit
+    /// stands at or above the number of lists that it was made with. Only want of memory refuses.
     pub fn mask<R: Wait>(
         &mut self,
         rt: &R,
@@ -260,14 +268,14 @@ impl BoardCaller {
             (λ e. (e ≡ BoardErr.Memory) × Unchanged (known self.old) (known self.new)) }
     {
         board_laws();
-        let pass = self.pass.take().unwrap();
+        let pass = self.take_pass();
         let (pass, answer) = board.mask(rt, pass, pipe.number, bits);
         self.pass = Some(pass);
         answer
     }
 
-    /// From now on no request of a queue of the caller's is begun, and none of a chain goes on; what was begun, or has gone on, is
-    /// done. Only want of memory refuses.
+    /// From now on no request of a queue of the caller's is begun, and none of a chain goes on; what was begun, or has
+    /// gone on, is done. Only want of memory refuses.
     pub fn hold<R: Wait>(
         &mut self,
         rt: &R,
@@ -283,7 +291,7 @@ impl BoardCaller {
             (λ e. (e ≡ BoardErr.Memory) × Unchanged (known self.old) (known self.new)) }
     {
         board_laws();
-        let pass = self.pass.take().unwrap();
+        let pass = self.take_pass();
         let (pass, answer) = board.hold(rt, pass, pipe.number);
         self.pass = Some(pass);
         answer
@@ -305,15 +313,15 @@ impl BoardCaller {
             (λ e. (e ≡ BoardErr.Memory) × Unchanged (known self.old) (known self.new)) }
     {
         board_laws();
-        let pass = self.pass.take().unwrap();
+        let pass = self.take_pass();
         let (pass, answer) = board.go(rt, pass, pipe.number);
         self.pass = Some(pass);
         answer
     }
 
-    /// Hands out what a pipeline of the caller's has told and no call handed out before: at most a start and a completion of
-    /// each of its requests, with at most 64 bytes more for each than was asked. Only want of memory refuses, and hands
-    /// out nothing.
+    /// Hands out what a pipeline of the caller's has told and no call handed out before: at most a start and a
+    /// completion of each of its requests, with at most 64 bytes more for each than was asked. Only want of memory
+    /// refuses, and hands out nothing.
     pub fn poll<R: Wait>(
         &mut self,
         rt: &R,
@@ -329,14 +337,14 @@ impl BoardCaller {
             (λ e. (e ≡ BoardErr.Memory) × (into.new.list ≡ into.old.list) × Unchanged (known self.old) (known self.new)) }
     {
         board_laws();
-        let pass = self.pass.take().unwrap();
+        let pass = self.take_pass();
         let (pass, answer) = board.poll(rt, pass, pipe.number, into);
         self.pass = Some(pass);
         answer
     }
 
-    /// Does what jobs there are until each of a pipeline of the caller's is done, and hands out what no call handed out before, as
-    /// `poll` does: with it all is handed out. Only want of memory refuses, and hands out
+    /// Does what jobs there are until each of a pipeline of the caller's is done, and hands out what no call handed out
+    /// before, as `poll` does: with it all is handed out. Only want of memory refuses, and hands out
     /// nothing.
     pub fn drain<R: Wait, G: Gate>(
         &mut self,
@@ -355,14 +363,14 @@ impl BoardCaller {
             (λ e. (e ≡ BoardErr.Memory) × (into.new.list ≡ into.old.list) × Unchanged (known self.old) (known self.new)) }
     {
         board_laws();
-        let pass = self.pass.take().unwrap();
+        let pass = self.take_pass();
         let (pass, answer) = drain(rt, board, pass, pipe.number, into, gate);
         self.pass = Some(pass);
         answer
     }
 
-    /// Shuts the board, which isn't shut yet, by the caller with the number 0. No memory is taken. What it knows of pipelines that it
-    /// shares stays, where workers alone are left beside it.
+    /// Shuts the board, which isn't shut yet, by the caller with the number 0. No memory is taken. What it knows of
+    /// pipelines that it shares stays, where workers alone are left beside it.
     pub fn shut<R: Wait>(&mut self, rt: &R, board: &SharedBoard<Job>)
         requires at { CallsBoard board.now self.old }
         requires first { (known self.old).number ≡ 0 }
@@ -373,7 +381,7 @@ impl BoardCaller {
         ensures gathered { PeersGone (known self.old) → (pipe : KnownPipe) → KnowsGathered (known self.old) pipe → KnowsGathered (known self.new) pipe }
     {
         sharing_laws();
-        let pass = self.pass.take().unwrap();
+        let pass = self.take_pass();
         self.pass = Some(board.shut(rt, pass));
     }
 }

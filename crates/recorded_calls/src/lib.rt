@@ -12,5 +12,5 @@ pub use board_caller::BoardCaller;
 pub use look::Look;
 pub use pipe::{PipelineView, RequestLines};
 pub use registry_caller::RegistryCaller;
-pub use shared_calls::{gathered_hand_out_all, shared_is_known};
+pub use shared_calls::{gathered_hand_out_all, shared_is_known, sharing_laws};
 pub use stop::Stop;

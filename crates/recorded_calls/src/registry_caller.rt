@@ -8,12 +8,12 @@ ghost use Rattle.alg_registry.specs.Rows.{registered};
 ghost use Rattle.alg_names.specs.Name.{spelling};
 ghost use Rattle.templates.specs.Nesting.{is_nested_well};
 ghost use Rattle.templates.specs.Table.{table};
-ghost use Rattle.shared_registry.specs.Building.{WasAnswered};
+ghost use Rattle.shared_registry.specs.Builds.{WasAnswered};
 ghost use Rattle.shared_registry.specs.Passes.{IsSound};
 ghost use Rattle.dialogues.specs.RegistryCalls.{Enlists, Unlists, Gets, Puts, Counts, Lists};
 ghost use Rattle.recorded_calls.specs.Passes.{CallsRegistry, known};
-ghost use Rattle.recorded_calls.specs.Asking.{CallLaws, IsCaller, HasReferenceOf, Asks, Finds, SeesLook, IsResolved, enlisted_as, unlisted_as, got_as, counted_as, listed_as};
-ghost use Rattle.recorded_calls.specs.Looking.{Goes, Builds, look_entry, Settles};
+ghost use Rattle.recorded_calls.specs.RegistryCalls.{CallLaws, IsCaller, HasReferenceOf, Asks, Finds, SeesLook, IsResolved, enlisted_as, unlisted_as, got_as, counted_as, listed_as};
+ghost use Rattle.recorded_calls.specs.Looks.{Goes, Builds, look_entry, Settles};
 
 use crate::look::Look;
 use crate::stop::Stop;
@@ -158,9 +158,17 @@ impl RegistryCaller {
         self.pass.unwrap()
     }
 
-    /// Lists a driver of the table that stands on no other, and answers its id. `Exist` comes where its driver equals the name or
-    /// the driver of a listed entry, or its name the driver of one; otherwise `NFile` where 4,096 entries are held. Both are
-    /// recorded. Only want of memory stops it, and then nothing is recorded.
+    // Takes the caller's pass for a call, which gives one back.
+    fn take_pass(&mut self) -> RegPass
+        requires { IsSome self.old }
+        ensures { self.old ≡ Some result }
+    {
+        self.pass.take().unwrap()
+    }
+
+    /// Lists a driver of the table that stands on no other, and answers its id. `Exist` comes where its driver equals
+    /// the name or the driver of a listed entry, or its name the driver of one; otherwise `NFile` where 4,096 entries
+    /// are held. Both are recorded. Only want of memory stops it, and then nothing is recorded.
     pub fn enlist<R: Wait>(
         &mut self,
         rt: &R,
@@ -175,14 +183,14 @@ impl RegistryCaller {
         ensures { MatchResult result (λ how. Asks self.old self.new (Enlists spec how ∷ [])) (λ _. Asks self.old self.new []) }
     {
         call_laws();
-        let pass = self.pass.take().unwrap();
+        let pass = self.take_pass();
         let (pass, answer) = registry.enlist(rt, pass, spec);
         self.pass = Some(pass);
         enlisted(answer)
     }
 
-    /// Takes the entry of a driver off the list, and with it what stands on it, and says whether it was there. Only want of memory
-    /// stops it, and then nothing is recorded.
+    /// Takes the entry of a driver off the list, and with it what stands on it, and says whether it was there. Only
+    /// want of memory stops it, and then nothing is recorded.
     pub fn unlist<R: Wait>(
         &mut self,
         rt: &R,
@@ -196,14 +204,14 @@ impl RegistryCaller {
             (λ _. Asks self.old self.new []) }
     {
         call_laws();
-        let pass = self.pass.take().unwrap();
+        let pass = self.take_pass();
         let (pass, answer) = registry.unlist(rt, pass, driver);
         self.pass = Some(pass);
         unlisted(answer)
     }
 
-    /// Takes a reference of an entry where it is still listed, and says whether it was. Only want of memory stops it, and then
-    /// nothing is recorded.
+    /// Takes a reference of an entry where it is still listed, and says whether it was. Only want of memory stops it,
+    /// and then nothing is recorded.
     pub fn take_ref<R: Wait>(
         &mut self,
         rt: &R,
@@ -215,7 +223,7 @@ impl RegistryCaller {
         ensures { MatchResult result (λ ok. Asks self.old self.new (Gets id ok ∷ [])) (λ _. Asks self.old self.new []) }
     {
         call_laws();
-        let pass = self.pass.take().unwrap();
+        let pass = self.take_pass();
         let (pass, answer) = registry.take_ref(rt, pass, id);
         self.pass = Some(pass);
         got(answer)
@@ -230,12 +238,12 @@ impl RegistryCaller {
     {
         references_follow();
         call_laws();
-        let pass = self.pass.take().unwrap();
+        let pass = self.take_pass();
         self.pass = Some(registry.put_ref(rt, pass, id));
     }
 
-    /// The references of the newest held entry of the driver, if there is one. Only want of memory stops it, and then nothing
-    /// is recorded.
+    /// The references of the newest held entry of the driver, if there is one. Only want of memory stops it, and then
+    /// nothing is recorded.
     pub fn refs<R: Wait>(
         &mut self,
         rt: &R,
@@ -247,7 +255,7 @@ impl RegistryCaller {
         ensures { MatchResult result (λ refs. Asks self.old self.new (Counts driver.now refs ∷ [])) (λ _. Asks self.old self.new []) }
     {
         call_laws();
-        let pass = self.pass.take().unwrap();
+        let pass = self.take_pass();
         let (pass, answer) = registry.refs(rt, pass, driver);
         self.pass = Some(pass);
         counted(answer)
@@ -260,15 +268,15 @@ impl RegistryCaller {
         ensures { MatchResult result (λ rows. Asks self.old self.new (Lists rows ∷ [])) (λ _. Asks self.old self.new []) }
     {
         call_laws();
-        let pass = self.pass.take().unwrap();
+        let pass = self.take_pass();
         let (pass, answer) = registry.list(rt, pass);
         self.pass = Some(pass);
         listed(answer)
     }
 
-    /// Looks a name up, builds what is missing or waits for who builds it, and answers the id of the entry. An errno is what the
-    /// look comes to where it comes to no entry. Only want of memory stops it: then the look alone may have been recorded, which may
-    /// have come to nothing.
+    /// Looks a name up, builds what is missing or waits for who builds it, and answers the id of the entry. An errno is
+    /// what the look comes to where it comes to no entry. Only want of memory stops it: then the look alone may have
+    /// been recorded, which may have come to nothing.
     pub fn resolve<R: Wait>(
         &mut self,
         rt: &R,
@@ -282,13 +290,14 @@ impl RegistryCaller {
         ensures { MatchResult result (λ found. Finds self.old self.new (spelling name.now) found) (λ _. SeesLook self.old self.new (spelling name.now)) }
     {
         call_laws();
-        let pass = self.pass.take().unwrap();
+        let pass = self.take_pass();
         let (pass, answer) = resolve(rt, alloc, registry, pass, name, false);
         self.pass = Some(pass);
         found(answer)
     }
 
-    /// A copy of an entry that the caller has seen, as it came to be. Nothing is recorded. Only want of memory stops it.
+    /// A copy of an entry that the caller has seen, as it came to be. Nothing is recorded. Only want of memory stops
+    /// it.
     pub fn origin<R: Wait>(
         &mut self,
         rt: &R,
@@ -304,13 +313,14 @@ impl RegistryCaller {
     {
         registry_calls_go_on();
         call_laws();
-        let pass = self.pass.take().unwrap();
+        let pass = self.take_pass();
         let (pass, answer) = registry.origin(rt, pass, id);
         self.pass = Some(pass);
         origin_of(answer)
     }
 
-    /// Looks a name up, and leaves what it comes to for `settle`. Only want of memory stops it, and then nothing is recorded.
+    /// Looks a name up, and leaves what it comes to for `settle`. Only want of memory stops it, and then nothing is
+    /// recorded.
     pub fn look<R: Wait>(
         &mut self,
         rt: &R,
@@ -328,7 +338,7 @@ impl RegistryCaller {
     {
         learn_name(&name);
         let text = print_name(alloc, &name)?;
-        let pass = self.pass.take().unwrap();
+        let pass = self.take_pass();
         let (pass, answer) = registry.look(rt, pass, text.as_slice(), false);
         self.pass = Some(pass);
         let looked = looked(answer)?;
@@ -344,14 +354,14 @@ impl RegistryCaller {
             (λ _. Goes self.old self.new []) }
     {
         registry_calls_go_on();
-        let pass = self.pass.take().unwrap();
+        let pass = self.take_pass();
         let (pass, answer) = registry.origin(rt, pass, id);
         self.pass = Some(pass);
         origin_of(answer)
     }
 
-    /// What a look of the caller's comes to: a copy of the entry as it came to be, or an errno. What is missing is built, or
-    /// waited for where others build it. Only want of memory stops it, and then no further look was made.
+    /// What a look of the caller's comes to: a copy of the entry as it came to be, or an errno. What is missing is
+    /// built, or waited for where others build it. Only want of memory stops it, and then no further look was made.
     pub fn settle<R: Wait>(
         &mut self,
         rt: &R,
@@ -365,7 +375,7 @@ impl RegistryCaller {
         ensures { MatchResult result (λ found. Settles self.old self.new look.now.looked found) (λ _. Builds self.old self.new) }
     {
         registry_calls_go_on();
-        let pass = self.pass.take().unwrap();
+        let pass = self.take_pass();
         let (pass, answer) = settle(rt, alloc, registry, pass, &look.name, look.looked);
         self.pass = Some(pass);
         match found(answer)? {

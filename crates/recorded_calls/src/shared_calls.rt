@@ -8,9 +8,9 @@ ghost use Rattle.board.specs.declared.entry.BoardEntry.{BoardEntry};
 ghost use Rattle.board.specs.Allowance.{IsAllowed};
 ghost use Rattle.board.specs.Alone.{PeersGone};
 ghost use Rattle.board.specs.Entries.{caller_of};
-ghost use Rattle.board.specs.Handing.{completions};
+ghost use Rattle.board.specs.HandedOut.{completions};
 ghost use Rattle.board.specs.Legal.{LegalBoard};
-ghost use Rattle.turn_lock.specs.Meeting.{AtTurn, Leaves, IsOwn};
+ghost use Rattle.turn_lock.specs.PassLaws.{AtTurn, Leaves, IsOwn};
 ghost use Rattle.turn_lock.specs.Passes.{knows};
 ghost use Rattle.turn_lock.specs.Turns.{Known, gives_number, gets_number, joined, StartsWith};
 ghost use Rattle.transforms.specs.AskValue.{ask_size};
@@ -21,7 +21,7 @@ ghost use Rattle.dialogues.specs.ScriptState.{PipelineState as KnownPipe};
 ghost use Rattle.shared_board.specs.Passes.{IsPassOn};
 ghost use Rattle.recorded_calls.specs.Passes.{CallsBoard, known, lock_of};
 ghost use Rattle.recorded_calls.specs.Pipelines.{IsPad, IsQueue, KnowsPipe, Unchanged, entered_asks};
-ghost use Rattle.recorded_calls.specs.Sharing.{SharingLaws, KnowsShared, Gave, KnowsLent, Lends, KnowsGathered, Rejoined, HaveEnded, Rejoins, Beside, Gathers, DrainedLent, SharedStaysKnown, LentIsShared, GatheredHandsAll};
+ghost use Rattle.recorded_calls.specs.SharedCalls.{SharingLaws, KnowsShared, Gave, KnowsLent, Lends, KnowsGathered, Rejoined, HaveEnded, Rejoins, Beside, Gathers, DrainedLent, SharedStaysKnown, LentIsShared, GatheredHandsAll};
 
 use crate::board_caller::{BoardCaller, board_laws};
 use crate::pipe::{PipelineView, RequestLines};
@@ -37,8 +37,8 @@ use std::alloc::{AllocError, Global};
 use std::sync::{Arc, Wait};
 use transforms::{Ask, Finished, Job};
 
-// what the board's laws say of what is shared, and of what workers alone leave
-pub(crate) fn sharing_laws()
+/// What the board's laws say of what is shared, and of what workers alone leave.
+pub fn sharing_laws()
     ensures { SharingLaws }
 {
     board_laws();
@@ -56,8 +56,8 @@ pub fn shared_is_known()
     sharing_laws();
 }
 
-/// A pipeline that the caller shares, and that has handed out as many completions as it accepted requests, has handed out those of
-/// all, in order, each once.
+/// A pipeline that the caller shares, and that has handed out as many completions as it accepted requests, has handed
+/// out those of all, in order, each once.
 pub fn gathered_hand_out_all()
     ensures { (k : Known (BoardEntry Asked)) (pipe : KnownPipe) → GatheredHandsAll k pipe }
 {
@@ -115,7 +115,7 @@ impl BoardCaller {
             (λ e. (e ≡ BoardErr.Memory) × Unchanged (known self.old) (known self.new)) }
     {
         sharing_laws();
-        let pass = self.pass.take().unwrap();
+        let pass = self.take_pass();
         let (pass, answer) = board.share(rt, pass, pipe.number);
         self.pass = Some(pass);
         answer
@@ -143,7 +143,7 @@ impl BoardCaller {
         ensures served { IfErr result (λ e. e ≢ BoardErr.NoWorker) }
     {
         sharing_laws();
-        let pass = self.pass.take().unwrap();
+        let pass = self.take_pass();
         let (pass, answer) = board.submit(rt, pass, pipe.number, job);
         self.pass = Some(pass);
         answer
@@ -171,7 +171,7 @@ impl BoardCaller {
         ensures served { IfErr result (λ e. e ≢ BoardErr.NoWorker) }
     {
         sharing_laws();
-        let pass = self.pass.take().unwrap();
+        let pass = self.take_pass();
         let (pass, answer) = board.enqueue(rt, pass, pipe.number, job, backlog);
         self.pass = Some(pass);
         answer
@@ -186,7 +186,7 @@ impl BoardCaller {
         ensures gives { known self.new ≡ gives_number number (known self.old) }
         ensures gets { knows result ≡ gets_number number (known self.old) }
     {
-        let pass = self.pass.take().unwrap();
+        let pass = self.take_pass();
         let (own, other) = board.split(pass, number);
         self.pass = Some(own);
         other
@@ -200,12 +200,12 @@ impl BoardCaller {
         ensures joined { known self.new ≡ joined (known self.old) (knows other) }
         ensures seen { StartsWith (known self.new).seen (known self.old).seen × StartsWith (known self.new).seen (knows other).seen }
     {
-        let pass = self.pass.take().unwrap();
+        let pass = self.take_pass();
         self.pass = Some(board.join(pass, other));
     }
 
-    /// Takes a turn at which nothing is done: the caller has then seen all that happened. Where others were joined into its pass, it
-    /// knows again what it knew before (`again`), and that they have ended (`gone`).
+    /// Takes a turn at which nothing is done: the caller has then seen all that happened. Where others were joined into
+    /// its pass, it knows again what it knew before (`again`), and that they have ended (`gone`).
     pub fn meet<R: Wait>(&mut self, rt: &R, board: &SharedBoard<Job>)
         requires at { CallsBoard board.now self.old }
         ensures lock { lock_of self.new ≡ lock_of self.old }
@@ -217,13 +217,13 @@ impl BoardCaller {
         ensures gone { HaveEnded (known self.old) → PeersGone (known self.new) }
     {
         sharing_laws();
-        let pass = self.pass.take().unwrap();
+        let pass = self.take_pass();
         let (pass, _) = board.is_shut(rt, pass);
         self.pass = Some(pass);
     }
 
-    /// Learns what a pipeline accepted that the caller shares, once all others have ended but the workers: whose lines its requests
-    /// are. Only want of memory refuses, and leaves the pipeline as the caller knew it.
+    /// Learns what a pipeline accepted that the caller shares, once all others have ended but the workers: whose lines
+    /// its requests are. Only want of memory refuses, and leaves the pipeline as the caller knew it.
     pub fn gather<R: Wait>(
         &mut self,
         rt: &R,
@@ -241,7 +241,7 @@ impl BoardCaller {
             (λ e. (e ≡ BoardErr.Memory) × (pipe.new ≡ pipe.old)) }
     {
         sharing_laws();
-        let pass = self.pass.take().unwrap();
+        let pass = self.take_pass();
         let (pass, asks) = board.asks(rt, pass, pipe.number);
         self.pass = Some(pass);
         let lines = lines_read(alloc, asks)?;
@@ -249,8 +249,8 @@ impl BoardCaller {
         Ok(())
     }
 
-    /// The requests of a queue that the caller shares are run again, and those of a chain go on, once all others have ended but the
-    /// workers. Only want of memory refuses.
+    /// The requests of a queue that the caller shares are run again, and those of a chain go on, once all others have
+    /// ended but the workers. Only want of memory refuses.
     pub fn go_gathered<R: Wait>(
         &mut self,
         rt: &R,
@@ -267,14 +267,15 @@ impl BoardCaller {
             (λ e. (e ≡ BoardErr.Memory) × Beside (known self.old) (known self.new)) }
     {
         sharing_laws();
-        let pass = self.pass.take().unwrap();
+        let pass = self.take_pass();
         let (pass, answer) = board.go(rt, pass, pipe.number);
         self.pass = Some(pass);
         answer
     }
 
-    /// Drains a pipeline that the caller shares, as `drain` does one of its own, once all others have ended but the workers, and the
-    /// caller has learnt what it accepted (`gather`). Only want of memory refuses, and hands out nothing.
+    /// Drains a pipeline that the caller shares, as `drain` does one of its own, once all others have ended but the
+    /// workers, and the caller has learnt what it accepted (`gather`). Only want of memory refuses, and hands out
+    /// nothing.
     pub fn drain_gathered<R: Wait, G: Gate>(
         &mut self,
         rt: &R,
@@ -293,7 +294,7 @@ impl BoardCaller {
             (λ e. (e ≡ BoardErr.Memory) × (into.new.list ≡ into.old.list) × Unchanged (known self.old) (known self.new) × ((known self.new).ended ≡ (known self.old).ended)) }
     {
         sharing_laws();
-        let pass = self.pass.take().unwrap();
+        let pass = self.take_pass();
         let (pass, answer) = drain(rt, board, pass, pipe.number, into, gate);
         self.pass = Some(pass);
         answer

@@ -3,11 +3,11 @@ use Rattle.std.proofs.Common.{◌≡◌, ℕ, ◌+◌, ◌-◌, ◌^◌, ◌<◌
 use Rattle.std.specs.Prelude.{IsErrOf}
 use Rattle.std.specs.List.{list_any}
 use Rattle.std.specs.Io.KnownBytes.{IsAtEnd}
-use Rattle.std.proofs.KnownBytes.{Consumes-nil}
+use Rattle.std.proofs.KnownBytes.{Consumes-nil, Keeps-refl, Appends-nil}
 use Rattle.std.proofs.lemmas.List.Folds.{list_any-append}
 use Rattle.board.specs.Legal.{is_shut}
 use Rattle.dialogues.specs.Lines.{line_dialogue}
-use Rattle.dialogues.specs.Piping.{end}
+use Rattle.dialogues.specs.PipelineCommands.{end}
 use Rattle.dialogues.specs.Transcripts.{text_in}
 use Rattle.dialogues.specs.ScriptState.{start}
 use Rattle.dialogues.specs.Widths.{width_of}
@@ -15,8 +15,8 @@ use Rattle.kc_base.specs.declared.transfer.InputError.{InputError}
 use Rattle.kc_base.specs.declared.transfer.InputError.TheVariants as input
 use Rattle.kc_base.specs.declared.transfer.SinkError.{SinkError}
 use Rattle.kc_base.specs.declared.transfer.SinkError.TheVariants as output
-use Rattle.script_session.specs.Ending.{AnswersEnd, EndsShut}
-use Rattle.script_session.specs.Running.{IsReady, Replies}
+use Rattle.script_session.specs.EndOfInput.{AnswersEnd, EndsShut}
+use Rattle.script_session.specs.Replies.{IsReady, Replies}
 use Rattle.script_session.specs.States.{State}
 use Rattle.script_text.specs.NextLine.{Place, FindsNext}
 use Rattle.script_text.specs.Script.{script_of}
@@ -35,7 +35,7 @@ use Rattle.script_run.specs.Runs.{Gains, IsFresh, IsUnshutOrEnds, Writes, Cuts, 
 use Rattle.script_run.specs.Statuses.{of_input, of_output}
 use Rattle.script_run.specs.Text.{is_malformed}
 use Rattle.script_run.proofs.Fronts.{nothing-front}
-use Rattle.script_run.proofs.Going.{Going, goes-same, keeps-same, appends-none, going-begins, going-more, going-breaks, going-end_breaks, going-begun, going-end_begun, going-ends, going-ends_front, going-ends_in_turn, going-ends_own, line_broken-goes, end_broken-goes, end-goes, stopped, stopped-by_lines, going-by_lines, going-end_by_lines, going-ends_by_lines, nothing-by_lines, led-answered, led-stops_here, going-cut, going-end_cut, going-stopped, going-broken, going-end_broken, line_broken-own, end_broken-own, breaks-plain}
+use Rattle.script_run.proofs.Going.{Going, goes-same, going-begins, going-more, going-breaks, going-end_breaks, going-begun, going-end_begun, going-ends, going-ends_front, going-ends_in_turn, going-ends_own, line_broken-goes, end_broken-goes, end-goes, stopped, stopped-by_lines, going-by_lines, going-end_by_lines, going-ends_by_lines, nothing-by_lines, led-answered, led-stops_here, going-cut, going-end_cut, going-stopped, going-broken, going-end_broken, line_broken-own, end_broken-own, breaks-plain}
 use Rattle.script_run.proofs.Readings.{Reading, cut-told, told-whole, cut-all, after-read, after-behind, after-short, failed-whole, too_long-is, too_long-whole, reading-begins, reading-line, reading-end}
 
 -- ---- causes
@@ -79,8 +79,8 @@ runs-nothing laws registry board first left held ready fresh =
       reads = record { read = Consumes-nil left; at_end = tt };
       lines = record {
         goes_on = goes-same first;
-        front = ([], (λ r b from_r from_b. nothing-front first.workers (start 0) 0 (script_of (script_in left [])) r b), appends-none held);
-        by_lines = ([], (λ r b from_r from_b. nothing-by_lines first.workers (script_of (script_in left [])) r b), appends-none held);
+        front = ([], (λ r b from_r from_b. nothing-front first.workers (start 0) 0 (script_of (script_in left [])) r b), Appends-nil held);
+        by_lines = ([], (λ r b from_r from_b. nothing-by_lines first.workers (script_of (script_in left [])) r b), Appends-nil held);
         whole = tt;
         in_turn = tt;
         own = tt;
@@ -90,7 +90,7 @@ runs-nothing laws registry board first left held ready fresh =
         first = record { failed = λ e. absurd cc; too_long = (λ e. absurd cc, λ lt. absurd (omega arith)); up_to = λ e. absurd cc; written = λ e. absurd cc; whole = tt };
         own_reads = λ e. elim e [ inl is ↦ absurd cc | inr is ↦ absurd cc ];
         cut = λ e. absurd cc;
-        broken = λ e. (ready.stands.caller.own, going-stopped laws first registry board [] 1 held held held first first going (script_of (script_in left [])) (goes-same first) (keeps-same held) (led-stops_here laws first [] 1 first going.led (script_of (script_in left [])) ready.stands.caller.own));
+        broken = λ e. (ready.stands.caller.own, going-stopped laws first registry board [] 1 held held held first first going (script_of (script_in left [])) (goes-same first) (Keeps-refl held) (led-stops_here laws first [] 1 first going.led (script_of (script_in left [])) ready.stands.caller.own));
       };
     }
 
@@ -159,10 +159,10 @@ module _ (laws : Laws) (stay : WholeLinesStay) (none : NoWholeLine) (first : Sta
               goes_on = at.going.led.goes;
               front =
                   subst (λ ls. Gains x y (IsFrontAfter first.workers ls (known s.registry) (known s.board))) (sym told.1)
-                  (stopped laws first registry board at.done number x y y s s at.going told.0 (goes-same s) (keeps-same y));
+                  (stopped laws first registry board at.done number x y y s s at.going told.0 (goes-same s) (Keeps-refl y));
               by_lines =
                   subst (λ ls. Gains x y (IsByLinesAfter first.workers ls (known s.registry) (known s.board))) (sym told.1)
-                  (stopped-by_lines laws first registry board at.done number x y y s s at.going told.0 (goes-same s) (keeps-same y));
+                  (stopped-by_lines laws first registry board at.done number x y y s s at.going told.0 (goes-same s) (Keeps-refl y));
               whole = tt;
               in_turn = tt;
               own = tt;
@@ -175,7 +175,7 @@ module _ (laws : Laws) (stay : WholeLinesStay) (none : NoWholeLine) (first : Sta
               broken = λ is. (
                 at.going.ready.stands.caller.own,
                 subst (λ ls. Gains x y (IsBrokenOffAfter first.workers ls (known s.registry) (known s.board))) (sym told.1)
-                    (going-stopped laws first registry board at.done number x y y s s at.going told.0 (goes-same s) (keeps-same y)
+                    (going-stopped laws first registry board at.done number x y y s s at.going told.0 (goes-same s) (Keeps-refl y)
                     (led-stops_here laws first at.done number s at.going.led told.0 at.going.ready.stands.caller.own)),
               );
             };

@@ -9,14 +9,13 @@ use Rattle.board.specs.declared.entry.BoardEntry.{BoardEntry}
 use Rattle.board.specs.declared.entry.BoardEntry.TheVariants as event
 use Rattle.board.specs.Entries.{caller_of as board_caller}
 use Rattle.dialogues.specs.BoardCalls.{board_calls, board_calls_from, is_called}
-use Rattle.dialogues.specs.Dialogues.{Dialogue, Ends, Says, Asks, Posts, followed}
 use Rattle.dialogues.specs.InTurn.{AreInTurnBy}
 use Rattle.dialogues.specs.RegistryCalls.{RegCall, reg_calls, reg_calls_from, AllSettled}
-use Rattle.templates.specs.Looking.{is_asked}
+use Rattle.templates.specs.LookResults.{is_asked}
 use Rattle.transforms.specs.declared.ask.Ask.{Ask}
 use Rattle.turn_lock.specs.Turns.{Known, StartsWith, of}
 use Rattle.script_run.specs.Laws.{Laws}
-use Rattle.script_session.specs.Performing.{HasSeenMore}
+use Rattle.script_session.specs.PerformedDialogue.{HasSeenMore}
 use Rattle.script_run.specs.Runs.{OthersFollow}
 
 module _ {E : Type 0} where
@@ -31,7 +30,7 @@ module _ {E : Type 0} where
   none-pass false x xs e = (refl, e)
 
   -- where nobody of this number made an entry, none passes a test that others fail
-  none-of : (by : E → ℕ) (n : ℕ) (test : E → Bool) → ((e : E) → (by e == n) ≡ false → test e ≡ false) → (xs : List E) → of by n xs ≡ [] → filter test xs ≡ []
+  pub none-of : (by : E → ℕ) (n : ℕ) (test : E → Bool) → ((e : E) → (by e == n) ≡ false → test e ≡ false) → (xs : List E) → of by n xs ≡ [] → filter test xs ≡ []
   none-of by n test fails [] none = refl
   none-of by n test fails (x ∷ xs) none =
       let rest = none-pass (by x == n) x (of by n xs) none in
@@ -53,7 +52,7 @@ module _ {E : Type 0} where
 
 -- ---- what the script called stays
 
-not-asked : (n : ℕ) (e : RegEntry) → (reg_caller e == n) ≡ false → is_asked n e ≡ false
+pub not-asked : (n : ℕ) (e : RegEntry) → (reg_caller e == n) ≡ false → is_asked n e ≡ false
 not-asked n (entry.Enlist by spec answer) e = e
 not-asked n (entry.Look by text true answer) e = refl
 not-asked n (entry.Look by text false answer) e = e
@@ -66,7 +65,7 @@ not-asked n (entry.Claim by larval) e = refl
 not-asked n (entry.End by larval answer) e = refl
 not-asked n (entry.Waited by larval) e = refl
 
-not-called : (n : ℕ) (e : BoardEntry Ask) → (board_caller e == n) ≡ false → is_called n e ≡ false
+pub not-called : (n : ℕ) (e : BoardEntry Ask) → (board_caller e == n) ≡ false → is_called n e ≡ false
 not-called n (event.Born by pipe shape) e = e
 not-called n (event.Submit by pipe number ask) e = e
 not-called n (event.Enq by pipe ask backlog answer) e = e
@@ -113,11 +112,3 @@ pub in_turn-on : Laws → (width : ℕ) (k : Known RegEntry) (h : List RegEntry)
 in_turn-on laws width k h calls zero others turns =
     subst (λ cs. AreInTurnBy width 0 cs [] h) (append-nil calls)
     (laws.later_calls width 0 calls [] [] k.seen h turns (laws.any_width width 0 [] k.seen h (others.0, others.1, unasked k others.0 zero others.2)))
-
--- ---- a dialogue that nothing follows
-
-pub followed-ends : (d : Dialogue) → followed d Ends ≡ d
-followed-ends (Ends after) = refl
-followed-ends (Says answers next) = ap (Says answers) (followed-ends next)
-followed-ends (Asks question next) = λ i. Asks question (λ answer. followed-ends (next answer) i)
-followed-ends (Posts question next) = λ i. Posts question (λ answer. followed-ends (next answer) i)

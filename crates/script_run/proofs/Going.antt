@@ -2,8 +2,7 @@
 use Rattle.std.proofs.Common.{◌≡◌, ℕ, ◌+◌, List, [], ◌∷◌, ◌++◌, Option, Some, None, refl, sym, ap, subst, ◌∙◌, append_assoc, append-nil, arith, inl, inr, IfSome, ◌≤◌}
 use Rattle.std.specs.Prelude.{is_some}
 use Rattle.std.specs.Io.KnownBytes.{Appends, Keeps}
-use Rattle.std.proofs.KnownBytes.{Appends-trans}
-use Rattle.std.proofs.lemmas.Grind.{flat_map-append}
+use Rattle.std.proofs.KnownBytes.{Appends-trans, Appends-kept, Appends-nil}
 use Rattle.alg_registry.specs.declared.entry.RegEntry.{RegEntry}
 use Rattle.alg_registry.specs.Rows.{caller_of as reg_caller}
 use Rattle.board.specs.declared.entry.BoardEntry.{BoardEntry}
@@ -11,9 +10,9 @@ use Rattle.dialogues.specs.BoardCalls.{BoardCall, board_calls, board_calls_from}
 use Rattle.dialogues.specs.Dialogues.{Dialogue, Ends as Done}
 use Rattle.dialogues.specs.First.{AreFurther, BeginsBy}
 use Rattle.dialogues.specs.InTurn.{AsksNothing, AreInTurnBy}
-use Rattle.dialogues.specs.Leading.{Leads}
+use Rattle.dialogues.specs.Continuations.{Leads}
 use Rattle.dialogues.specs.Lines.{line_dialogue, lines_dialogue}
-use Rattle.dialogues.specs.Piping.{end}
+use Rattle.dialogues.specs.PipelineCommands.{end}
 use Rattle.dialogues.specs.RegistryCalls.{RegCall, reg_calls, reg_calls_from, AllSettled}
 use Rattle.dialogues.specs.Texts.{IsText}
 use Rattle.script_run.specs.ByLines.{IsTextByLines, LinesTell, ScriptTells, NothingIsByLines, told_by}
@@ -21,26 +20,26 @@ use Rattle.script_run.specs.Fronts.{IsFrontText}
 use Rattle.dialogues.specs.Transcripts.{Transcript, IsTranscript, ended, joined, text_in, transcript_of}
 use Rattle.dialogues.specs.ScriptState.{start}
 use Rattle.dialogues.specs.Widths.{width_of, widest}
+use Rattle.dialogues.proofs.Leading.{text-joined}
 use Rattle.kc_base.specs.Streams.{IsPrefix}
-use Rattle.reply_text.specs.Answers.{text_of}
-use Rattle.script_session.specs.Ending.{AnswersEnd}
-use Rattle.script_session.specs.Running.{IsReady, Replies}
+use Rattle.script_session.specs.EndOfInput.{AnswersEnd}
+use Rattle.script_session.specs.Replies.{IsReady, Replies}
 use Rattle.script_session.specs.States.{State}
 use Rattle.script_text.specs.declared.commands.Line.{Line}
 use Rattle.script_text.specs.Script.{script_of}
 use Rattle.script_text.specs.Whole.{AreFirst}
-use Rattle.recorded_calls.specs.Asking.{AskedBy}
+use Rattle.recorded_calls.specs.RegistryCalls.{AskedBy}
 use Rattle.recorded_calls.specs.Passes.{known}
 use Rattle.recorded_calls.specs.Pipelines.{Called}
 use Rattle.shared_board.specs.declared.shared.SharedBoard.{SharedBoard}
 use Rattle.shared_registry.specs.declared.registry_lock.SharedRegistry.{SharedRegistry}
 use Rattle.transforms.specs.declared.ask.Ask.{Ask}
 use Rattle.transforms.specs.declared.request.Finished.{Finished}
-use Rattle.turn_lock.specs.Meeting.{IsOwn}
+use Rattle.turn_lock.specs.PassLaws.{IsOwn}
 use Rattle.turn_lock.specs.Turns.{Known, StartsWith}
 use Rattle.script_run.specs.Answered.{AreAnsweredAfter, BeginsWithTextAfter, IsCutOffAfter, IsBrokenOffAfter, IsBrokenOff, MakesFirstAfter, NothingIsBrokenOff, lines_and_next, lines_transcript}
 use Rattle.script_run.specs.Laws.{Laws}
-use Rattle.script_session.specs.Performing.{HasSeenMore, StopsIn}
+use Rattle.script_session.specs.PerformedDialogue.{HasSeenMore, StopsIn}
 use Rattle.script_run.specs.Runs.{Gains, GoesOn, IsFresh, Writes, Cuts, Breaks, AnswersAndShuts, IsTextAfter, IsFrontAfter, IsByLinesAfter, InTurnAfter}
 use Rattle.script_run.proofs.Fronts.{front-lines, front-text, nothing-front, widest-front, widest-last}
 use Rattle.script_run.proofs.Following.{starts-trans, sees-same, sees-then, reg_calls-on, board_calls-on, reg_calls-same, board_calls-same, in_turn-on, unasked}
@@ -100,23 +99,6 @@ stops-here laws d s zero settled own =
     }
 
 -- ---- streams
-
-pub keeps-text : (a b c : Option (List ℕ)) (text : List ℕ) → Appends a b text → Keeps b c → Appends a c text
-keeps-text None b c text grown kept = tt
-keeps-text (Some xs) None c text grown kept = absurd grown
-keeps-text (Some xs) (Some ys) None text grown kept = absurd kept
-keeps-text (Some xs) (Some ys) (Some zs) text grown kept = kept ∙ grown
-
-pub keeps-same : (held : Option (List ℕ)) → Keeps held held
-keeps-same None = tt
-keeps-same (Some xs) = refl
-
-pub appends-none : (held : Option (List ℕ)) → Appends held held []
-appends-none None = tt
-appends-none (Some xs) = sym (append-nil xs)
-
-texts-joined : (t u : Transcript) → text_in (joined t u) ≡ text_in t ++ text_in u
-texts-joined t u = flat_map-append text_of t.answers u.answers
 
 -- a front of what comes after is a front with what came before
 front-later : (before text front : List ℕ) → IsPrefix front text → IsPrefix (before ++ front) (before ++ text)
@@ -211,7 +193,7 @@ module _ (laws : Laws) (first : State) where
             board_caller = r.called.number ∙ led.board_caller;
             goes = goes-then first s s' led.goes (replied-goes (width_of line) (line_dialogue s.workers s.script_state number line) s s' [] reply r);
           },
-          texts-joined t u ∙ ap (λ x. text_in t ++ x) (sym r.says),
+          text-joined t u ∙ ap (λ x. text_in t ++ x) (sym r.says),
         )
 
     -- however the session goes on, what is written of this is a front of the text of all lines that begin with these
@@ -282,7 +264,7 @@ module _ (laws : Laws) (first : State) where
         ∙ led.leads [] Done r b
 
     alone-text : text_in (joined led.turn (ended s.script_state)) ≡ text_in led.turn
-    alone-text = texts-joined led.turn (ended s.script_state) ∙ append-nil (text_in led.turn)
+    alone-text = text-joined led.turn (ended s.script_state) ∙ append-nil (text_in led.turn)
 
     -- where others alone follow, and the board is shut, they are answered whole
     pub led-answered : AreAnsweredAfter first.workers done k l (text_in led.turn)
@@ -399,7 +381,7 @@ module _ (laws : Laws) (first : State) where
             is = leads-end end u.registry u.board ∙ ap (joined t) e.is;
             registry = (more_r, append_assoc t.registry u.registry more_r ∙ sym calls_r);
             board = (more_b, append_assoc t.board u.board more_b ∙ sym calls_b);
-            front = (front.0, front.1 ∙ (reply-is ∙ sym (texts-joined t u)));
+            front = (front.0, front.1 ∙ (reply-is ∙ sym (text-joined t u)));
           }
 
       -- and all of it is printed, whatever comes
@@ -418,7 +400,7 @@ module _ (laws : Laws) (first : State) where
             registry = (more_r, append_assoc t.registry u.registry more_r ∙ sym calls_r);
             board = (more_b, append_assoc t.board u.board more_b ∙ sym calls_b);
             ended = ap is_some e.ends;
-            text_is = reply-is ∙ sym (texts-joined t u);
+            text_is = reply-is ∙ sym (text-joined t u);
           }
 
       -- so a front of it that goes behind the lines is the text of all lines, and a front of what the end prints
@@ -440,7 +422,7 @@ module _ (laws : Laws) (first : State) where
 
     pub going-begins : (held : Option (List ℕ)) → IsReady registry board first → IsFresh first → At [] 1 held held first
     unfolding led-begins
-    going-begins held ready fresh = record { led = led-begins laws first fresh; ready = ready; written = appends-none held }
+    going-begins held ready fresh = record { led = led-begins laws first fresh; ready = ready; written = Appends-nil held }
 
     module _ (done : List Line) (number : ℕ) (x y z : Option (List ℕ)) (s s' : State) (going : At done number x y s) where
       abbrev t : Transcript
@@ -461,7 +443,7 @@ module _ (laws : Laws) (first : State) where
           record { led = m.0; ready = ready; written = subst (Appends x z) (sym m.1) (Appends-trans x y z (text_in t) step.0 going.written step.2) }
 
       pub stopped : (left : List Line) → GoesOn s s' → Keeps y z → Broken (done ++ left)
-      stopped left goes kept = (text_in t, led-front done number s going.led left s' (text_in t) goes ([], append-nil (text_in t)), keeps-text x y z (text_in t) going.written kept)
+      stopped left goes kept = (text_in t, led-front done number s going.led left s' (text_in t) goes ([], append-nil (text_in t)), Appends-kept x y z (text_in t) going.written kept)
 
       -- a line that breaks off leaves a front of the text
       pub going-breaks : (line : Line) (left : List Line) → Breaks (line_dialogue s.workers s.script_state number line) s s' (Replies (width_of line) (line_dialogue s.workers s.script_state number line) s s' []) y z → Broken ((done ++ line ∷ []) ++ left)
@@ -478,7 +460,7 @@ module _ (laws : Laws) (first : State) where
       stopped-by_lines left goes kept = (
         text_in t,
         λ r b from_r from_b. record { first = done; left = left; lines_are = refl; before = text_in t; told = led-tells done number s going.led s' goes r b from_r from_b; last = inl refl },
-        keeps-text x y z (text_in t) going.written kept,
+        Appends-kept x y z (text_in t) going.written kept,
       )
 
       pub going-by_lines : (line : Line) (left : List Line) → Breaks (line_dialogue s.workers s.script_state number line) s s' (Replies (width_of line) (line_dialogue s.workers s.script_state number line) s s' []) y z → ByLines ((done ++ line ∷ []) ++ left)
@@ -570,7 +552,7 @@ module _ (laws : Laws) (first : State) where
           tells = λ r b from_r from_b. led-tells done number s going.led s' goes r b from_r from_b;
           calls = calls;
         }),
-        keeps-text x y z (text_in t) going.written kept,
+        Appends-kept x y z (text_in t) going.written kept,
       )
 
       cut-broken : (lines : List Line) → CutOff lines → BrokenOff lines
@@ -612,7 +594,7 @@ module _ (laws : Laws) (first : State) where
       -- the first lines of what was answered before are written
       module _ (ones : List Line) (are : AreFirst ones done) where
         begun-by : (d : Dialogue) (IsReply : List ℕ → Type 0) → ((reply : List ℕ) → IsReply reply → GoesOn s s') → Breaks d s s' IsReply y z → Begun ones
-        begun-by d IsReply goes (inl stop) = (text_in t, led-begins_with done number s going.led ones s' (text_in t) are (stop-goes stop.0) ([], append-nil (text_in t)), keeps-text x y z (text_in t) going.written stop.1)
+        begun-by d IsReply goes (inl stop) = (text_in t, led-begins_with done number s going.led ones s' (text_in t) are (stop-goes stop.0) ([], append-nil (text_in t)), Appends-kept x y z (text_in t) going.written stop.1)
         begun-by d IsReply goes (inr part) =
             let written = part.2 in (
               text_in t ++ written.0,
@@ -677,7 +659,7 @@ nothing-by_lines workers lines r b = record {
 
 pub nothing_by_lines : (workers : ℕ) (left held : Option (List ℕ)) (r : List RegEntry) (b : List (BoardEntry Ask)) → IfSome left (λ script. Gains held held (IsTextByLines workers (script_of script) r b))
 nothing_by_lines workers None held r b = tt
-nothing_by_lines workers (Some script) held r b = ([], nothing-by_lines workers (script_of script) r b, appends-none held)
+nothing_by_lines workers (Some script) held r b = ([], nothing-by_lines workers (script_of script) r b, Appends-nil held)
 
 -- nor is anything broken off where nothing happened
 pub nothing-broken : Laws → NothingIsBrokenOff
@@ -692,9 +674,9 @@ nothing-broken laws workers lines = inr (record {
 
 pub nothing_broken : NothingIsBrokenOff → (workers : ℕ) (left held : Option (List ℕ)) → IfSome left (λ script. Gains held held (IsBrokenOff workers (script_of script) [] []))
 nothing_broken nothing workers None held = tt
-nothing_broken nothing workers (Some script) held = ([], nothing workers (script_of script), appends-none held)
+nothing_broken nothing workers (Some script) held = ([], nothing workers (script_of script), Appends-nil held)
 
 -- nothing is a front of the text of any script
 pub nothing_fronted : (workers : ℕ) (left held : Option (List ℕ)) (r : List RegEntry) (b : List (BoardEntry Ask)) → IfSome left (λ script. Gains held held (IsFrontText workers (start 0) 0 (script_of script) r b))
 nothing_fronted workers None held r b = tt
-nothing_fronted workers (Some script) held r b = ([], nothing-front workers (start 0) 0 (script_of script) r b, appends-none held)
+nothing_fronted workers (Some script) held r b = ([], nothing-front workers (start 0) 0 (script_of script) r b, Appends-nil held)

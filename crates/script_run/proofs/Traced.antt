@@ -2,7 +2,7 @@
 use Rattle.std.proofs.Common.{◌≡◌, ℕ, ◌-◌, ◌⊎◌, Bool, List, [], ◌++◌, length, take, Option, Some, None, Result, Ok, Err, inl, inr, sym, ap, subst, ◌∙◌, append_assoc, append-nil}
 use Rattle.std.specs.Prelude.{OnOk, IfOk, IfErr, IfSome, IsErrOf}
 use Rattle.std.specs.Io.KnownBytes.{Appends, Keeps}
-use Rattle.std.proofs.KnownBytes.{Appends-trans}
+use Rattle.std.proofs.KnownBytes.{Appends-trans, Appends-kept}
 use Rattle.alg_registry.specs.declared.entry.RegEntry.{RegEntry}
 use Rattle.board.specs.declared.entry.BoardEntry.{BoardEntry}
 use Rattle.dialogues.specs.Texts.{IsText}
@@ -14,7 +14,6 @@ use Rattle.script_run.specs.Answered.{BeginsWithText, RanSource}
 use Rattle.script_run.specs.Runs.{Gains, GainsThen, GainsFront}
 use Rattle.script_run.specs.declared.errors.RunError.{RunError}
 use Rattle.script_run.specs.declared.errors.RunError.TheVariants.{ReadFault, WriteFault, NoMemory, TooLong}
-use Rattle.script_run.proofs.Going.{keeps-text}
 
 -- what is written after a text is no matter to the lines that it begins with
 begins-more : (workers : ℕ) (lines : List Line) (r : List RegEntry) (b : List (BoardEntry Ask)) (text more : List ℕ) → BeginsWithText workers lines r b text → BeginsWithText workers lines r b (text ++ more)
@@ -105,7 +104,7 @@ module _ (before after : Result Bool RunError) (held held' held'' : Option (List
           at_ok bad is = subst (λ x. OnOk x (Gains held held' IsText)) is on
 
           part : (e : RunError) → IsPart e → GainsFront held held'' IsFront IsText trace
-          part e (inl kept) = inl (gained.0, gained.1, keeps-text held held' held'' gained.0 gained.2 kept.1)
+          part e (inl kept) = inl (gained.0, gained.1, Appends-kept held held' held'' gained.0 gained.2 kept.1)
           part e (inr some) =
               let text = at_ok some.0 some.1 in
               let grown = some.2 in
@@ -126,7 +125,7 @@ module _ (before after : Result Bool RunError) (held held' held'' : Option (List
       cut-front IsCut IsText cut on = by (subst (λ x. IfErr x IsPart) is front)
         where
           by : IsPart cause → GainsFront held held'' IsCut IsText trace
-          by (inl kept) = let gained = cut kept.0 in inl (gained.0, gained.1, keeps-text held held' held'' gained.0 gained.2 kept.1)
+          by (inl kept) = let gained = cut kept.0 in inl (gained.0, gained.1, Appends-kept held held' held'' gained.0 gained.2 kept.1)
           by (inr some) =
               let text = subst (λ x. OnOk x (Gains held held' IsText)) some.1 on in
               let grown = some.2 in
@@ -160,7 +159,7 @@ module _ (before after : Result Bool RunError) (held held' held'' : Option (List
           by (Err x) w (inr some) = absurd (ok-not some.0 e before some.1 is)
 
       gains-kept : (P : List ℕ → Type 0) → Gains held held' P → Keeps held' held'' → Gains held held'' P
-      gains-kept P gained kept = (gained.0, gained.1, keeps-text held held' held'' gained.0 gained.2 kept)
+      gains-kept P gained kept = (gained.0, gained.1, Appends-kept held held' held'' gained.0 gained.2 kept)
 
       module _ (workers : ℕ) (left left' : Option (List ℕ)) (r : List RegEntry) (b : List (BoardEntry Ask)) (ran : RanSource workers left left' r b before held held') where
         abbrev ones : List Line

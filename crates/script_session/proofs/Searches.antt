@@ -2,26 +2,27 @@
 use Rattle.std.proofs.Common.{◌≡◌, ℕ, suc, ◌+◌, ◌≤◌, Bool, true, false, ◌&&◌, List, [], ◌∷◌, ◌++◌, length, Option, Some, None, Result, Ok, Err, refl, sym, ap, subst, ◌∙◌, arith, append_assoc, append-nil}
 use Rattle.std.specs.Prelude.{◌==◌, if◌then◌else◌}
 use Rattle.std.specs.List.{list_all, flat_map}
+use Rattle.std.proofs.lemmas.Bool.{and_parts}
 use Rattle.kc_base.specs.declared.error_numbers.Errno.{Errno}
 use Rattle.alg_registry.specs.declared.entry.RegEntry.{RegEntry}
 use Rattle.alg_registry.specs.declared.entry.RegEntry.TheVariants as entry
 use Rattle.alg_registry.specs.Rows.{caller_of}
 use Rattle.reply_text.specs.declared.answers.Answer.{Answer}
-use Rattle.shared_registry.specs.Building.{is_building}
-use Rattle.templates.specs.Looking.{Found, Fault, found_in}
+use Rattle.shared_registry.specs.Builds.{is_building}
+use Rattle.templates.specs.LookResults.{Found, Fault, found_in}
 use Rattle.turn_lock.specs.Turns.{of}
 use Rattle.dialogues.specs.Dialogues.{Dialogue, Asks}
 use Rattle.dialogues.specs.First.{AreFirstCalls, BeginsBy}
 use Rattle.dialogues.specs.InTurn.{is_look}
 use Rattle.dialogues.specs.Names.{name_read}
-use Rattle.dialogues.specs.Probing.{found_said, looks_up, looks_all}
+use Rattle.dialogues.specs.Probe.{found_said, looks_up, looks_all}
 use Rattle.dialogues.specs.Questions.{Look}
 use Rattle.dialogues.proofs.First.{begins-none, begins-asks}
 use Rattle.dialogues.specs.References.{got, given}
 use Rattle.dialogues.specs.RegistryCalls.{RegCall, Looks, reg_call_of, reg_calls_from, prepend, AllSettled}
-use Rattle.recorded_calls.specs.Looking.{Sought}
+use Rattle.recorded_calls.specs.Looks.{Sought}
 use Rattle.recorded_calls.proofs.Asking.{own}
-use Rattle.script_session.specs.Probing.{Searched, IsRead, AreRead, entry_of, look_entries, comes_to, AreSaid}
+use Rattle.script_session.specs.Probe.{Searched, IsRead, AreRead, entry_of, look_entries, comes_to, AreSaid}
 
 -- ---- the calls that searches are
 
@@ -119,10 +120,6 @@ abbrev own_calls : List RegEntry → ℕ → List RegEntry → List RegCall
 own_calls h n [] = []
 own_calls h n (e ∷ es) = prepend (reg_call_of h n [] e) (own_calls h n es)
 
-and-true : (a b : Bool) → (a && b) ≡ true → (a ≡ true) × (b ≡ true)
-and-true true b e = (refl, e)
-and-true false b e = absurd cc
-
 calls-by-own : (h : List RegEntry) (n : ℕ) (before xs : List RegEntry) → list_all is_search (of caller_of n xs) ≡ true → reg_calls_from h n before xs ≡ own_calls h n (of caller_of n xs)
 calls-by-own h n before [] all = refl
 calls-by-own h n before (x ∷ xs) all = by_test (caller_of x == n) refl all (calls-by-own h n (before ++ x ∷ []) xs)
@@ -131,7 +128,7 @@ calls-by-own h n before (x ∷ xs) all = by_test (caller_of x == n) refl all (ca
         → (list_all is_search (of caller_of n xs) ≡ true → reg_calls_from h n (before ++ x ∷ []) xs ≡ own_calls h n (of caller_of n xs))
         → reg_calls_from h n before (x ∷ xs) ≡ own_calls h n (if t then x ∷ of caller_of n xs else of caller_of n xs)
     by_test true t all rest =
-        let both = and-true (is_search x) (list_all is_search (of caller_of n xs)) all in
+        let both = and_parts (is_search x) (list_all is_search (of caller_of n xs)) all in
         ap (λ c. prepend c (reg_calls_from h n (before ++ x ∷ []) xs)) (same-call h n before x both.0)
         ∙ ap (prepend (reg_call_of h n [] x)) (rest both.1)
     by_test false t all rest =
@@ -161,7 +158,7 @@ work-no_call h n (entry.List by) is = absurd cc
 work-no_calls : (h : List RegEntry) (n : ℕ) (work : List RegEntry) → list_all is_building work ≡ true → (own_calls h n work ≡ []) × (list_all is_search work ≡ true)
 work-no_calls h n [] all = (refl, refl)
 work-no_calls h n (e ∷ work) all =
-    let both = and-true (is_building e) (list_all is_building work) all in
+    let both = and_parts (is_building e) (list_all is_building work) all in
     let one = work-no_call h n e both.0 in
     let rest = work-no_calls h n work both.1 in
     (ap (λ c. prepend c (own_calls h n work)) one.0 ∙ rest.0, ap (λ b. b && list_all is_search work) one.1 ∙ rest.1)

@@ -4,76 +4,32 @@ ghost use Rattle.std.specs.Prelude.{◌≡◌, [], false, MatchResult};
 ghost use Rattle.board.specs.Alone.{PeersGone};
 ghost use Rattle.board.specs.Legal.{LegalBoard, is_shut};
 ghost use Rattle.turn_lock.specs.Passes.{knows};
-ghost use Rattle.dialogues.specs.Piping.{lets_go, let_all_go, drains_at_end, drain_all};
+ghost use Rattle.dialogues.specs.PipelineCommands.{lets_go, let_all_go, drains_at_end, drain_all};
 ghost use Rattle.dialogues.specs.ScriptState.{PipelineState as KnownPipe};
 ghost use Rattle.shared_board.specs.Passes.{IsPassOn};
 ghost use Rattle.recorded_calls.specs.Passes.{known, lock_of, CallsBoard};
-ghost use Rattle.recorded_calls.specs.Pipelines.{Steps, Laws, IsShut};
-ghost use Rattle.recorded_calls.specs.Sharing.{SharingLaws, KnowsGathered};
-ghost use Rattle.script_session.specs.Gathering.{IsJoined, EndsFirst, StopsFirst, SeesBeside, HasFreed, HasDelivered, MovesLent, MovesAllLent, EndsLent, AreToMove};
-ghost use Rattle.script_session.specs.Performing.{HasSeenMore};
-ghost use Rattle.script_session.specs.Lending.{HasLent};
+ghost use Rattle.recorded_calls.specs.Pipelines.{IsShut};
+ghost use Rattle.recorded_calls.specs.SharedCalls.{KnowsGathered};
+ghost use Rattle.script_session.specs.SharedEnd.{IsJoined, EndsFirst, StopsFirst, SeesBeside, HasFreed, HasDelivered, MovesLent, MovesAllLent, EndsLent, AreToMove};
+ghost use Rattle.script_session.specs.PerformedDialogue.{HasSeenMore};
+ghost use Rattle.script_session.specs.Loans.{HasLent};
 
 use crate::answers::put_all;
 use crate::callbacks::{count_completions, tell};
 use crate::end_of_input::say_end;
 use crate::shared_transforms::Shared;
 use crate::transform::Transform;
-use board::{
-    collects_hand_out, collects_hand_out_all, completions_in_order, entries_join, entries_leave,
-    fronts_tell_all, histories_go_on, masks_stay, numbers_in_order, only_collects_hand_out,
-    others_leave, pipelines_stay, queues_hold, shared_pipelines_stay, workers_are_left,
-    workers_finish,
-};
+use board::only_collects_hand_out;
 use crew::Gate;
-use dialogues::board_calls_go_on;
 use kc_base::Callbacks;
-use recorded_calls::{BoardCaller, PipelineView, RequestLines, Stop, gathered_hand_out_all};
+use recorded_calls::{
+    BoardCaller, PipelineView, RequestLines, Stop, gathered_hand_out_all, sharing_laws,
+};
 use reply_text::{Answer, Reply};
 use shared_board::{BoardPass, SharedBoard};
 use std::alloc::Global;
 use std::sync::Wait;
-use transforms::laws::values_are_short;
-use transforms::{Ask, Finished, Job};
-
-// what an entry of a caller's own is to what it knows
-fn entry_laws()
-    ensures { Steps }
-{
-    histories_go_on::<Ask>();
-    entries_join::<Ask>();
-    entries_leave::<Ask>();
-    pipelines_stay::<Ask>();
-    queues_hold::<Ask>();
-    masks_stay::<Ask>();
-    only_collects_hand_out::<Ask>();
-    collects_hand_out::<Ask, Finished>();
-    collects_hand_out_all::<Ask>();
-    fronts_tell_all::<Ask>();
-    completions_in_order::<Ask>();
-    numbers_in_order::<Ask>();
-}
-
-// what others leave of what a caller knows of the board, and what it does itself
-fn board_laws()
-    ensures { Laws }
-{
-    others_leave::<Ask, Finished>();
-    board_calls_go_on();
-    entry_laws();
-    values_are_short();
-}
-
-// what the board's laws say of what is shared, and of what workers alone leave
-fn sharing_laws()
-    ensures { SharingLaws }
-{
-    board_laws();
-    shared_pipelines_stay::<Ask>();
-    entries_leave::<Ask>();
-    workers_are_left::<Ask>();
-    workers_finish::<Ask>();
-}
+use transforms::{Ask, Job};
 
 // Lets the pipeline of a shared transform go, if it is held.
 fn release_shared<R: Wait>(
@@ -135,7 +91,8 @@ fn freed(alloc: Global, pipe: &PipelineView) -> PipelineView
     }
 }
 
-// Does what jobs there are until those of a shared transform's pipeline are done, if it has one, and adds what it hands out.
+// Does what jobs there are until those of a shared transform's pipeline are done, if it has one, and adds what it hands
+// out.
 fn drain_shared<R: Wait, G: Gate>(
     rt: &R,
     alloc: Global,
@@ -229,8 +186,9 @@ fn shut_beside<R: Wait>(rt: &R, board: &SharedBoard<Job>, pass: BoardPass<Job>) 
     board.shut(rt, pass)
 }
 
-/// Answers the end of input of the first script, when all have ended that were split off its pass and share its transforms: held
-/// queues are let go, each pipeline is drained of what all submitted, both in order of allocation, and then the board is shut.
+/// Answers the end of input of the first script, when all have ended that were split off its pass and share its
+/// transforms: held queues are let go, each pipeline is drained of what all submitted, both in order of allocation, and
+/// then the board is shut.
 ///
 /// It does what jobs there are while it waits. `Stop` comes for want of memory alone; then the board isn't shut.
 pub fn end_first<R: Wait, G: Gate>(

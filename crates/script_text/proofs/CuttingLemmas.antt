@@ -1,12 +1,12 @@
 -- Lines up to a mark, and behind it.
-use Rattle.std.proofs.Common.{◌≡◌, ℕ, suc, ◌+◌, ◌-◌, ◌<◌, ◌≤◌, Bool, true, false, cond, List, [], ◌∷◌, ◌++◌, length, take, drop, refl, sym, ap, ◌∙◌, append_assoc, append-nil, length-append, arith}
+use Rattle.std.proofs.Common.{◌≡◌, ℕ, suc, ◌+◌, ◌-◌, ◌<◌, ◌≤◌, Bool, true, false, cond, List, [], ◌∷◌, ◌++◌, length, take, drop, refl, sym, ap, ◌∙◌, append_assoc, length-append, arith}
 use Rattle.std.specs.List.{Contains}
 use Rattle.std.specs.List.{onto_first}
 use Rattle.std.proofs.lemmas.List.{take_at, length-take-le, length-drop, drop-drop}
 use Rattle.std.proofs.Math.Seq.{take-length, drop-length, take-add}
 use Rattle.script_text.specs.Lines.{is_feed, lines_of}
 use Rattle.script_text.specs.Parts.{is_mark, before_mark, behind_mark, all_bytes, cut_lines}
-use Rattle.script_text.specs.Pending.{IsFirstFeed}
+use Rattle.script_text.specs.LineCutter.{IsFirstFeed}
 use Rattle.script_text.proofs.PendingLemmas.{lines_cut}
 use Rattle.script_text.proofs.LineLemmas.{line_without_feed}
 
@@ -46,12 +46,6 @@ before-other line lines other = ap (λ mark. cond mark [] (line ++ before_mark l
 pub behind-other : (line : List ℕ) (lines : List (List ℕ)) → is_mark line ≡ false → behind_mark (line ∷ lines) ≡ behind_mark lines
 behind-other line lines other = ap (λ mark. cond mark lines (behind_mark lines)) other
 
-pub before-mark : (line : List ℕ) (lines : List (List ℕ)) → is_mark line ≡ true → before_mark (line ∷ lines) ≡ []
-before-mark line lines mark = ap (λ mark. cond mark [] (line ++ before_mark lines)) mark
-
-pub behind-mark : (line : List ℕ) (lines : List (List ℕ)) → is_mark line ≡ true → behind_mark (line ∷ lines) ≡ lines
-behind-mark line lines mark = ap (λ mark. cond mark lines (behind_mark lines)) mark
-
 -- so much of bytes was gone over, in which no mark stands
 pub record IsPassed (bytes : List ℕ) (at : ℕ) : Type 0 where
   pub within : at ≤ length bytes
@@ -74,27 +68,6 @@ passes-line bytes at len was short first other =
           ∙ (ap (λ front. front ++ before_mark (lines_of rest)) (sym taken) ∙ ap (λ r. take (at + len) bytes ++ before_mark (lines_of r)) (sym there)))));
       behind = was.behind ∙ (ap behind_mark first ∙ (behind-other line (lines_of rest) other ∙ ap (λ r. behind_mark (lines_of r)) (sym there)));
     }
-
--- and there is the first mark
-pub meets-mark : (bytes : List ℕ) (at len : ℕ) → IsPassed bytes at → lines_of (drop at bytes) ≡ take len (drop at bytes) ∷ lines_of (drop len (drop at bytes))
-    → is_mark (take len (drop at bytes)) ≡ true
-    → (take at bytes ≡ before_mark (lines_of bytes)) × (lines_of (drop (at + len) bytes) ≡ behind_mark (lines_of bytes))
-meets-mark bytes at len was first mark =
-    let line = take len (drop at bytes) in
-    let rest = drop len (drop at bytes) in (
-      sym (was.before ∙ (ap (λ lines. take at bytes ++ before_mark lines) first
-          ∙ (ap (λ more. take at bytes ++ more) (before-mark line (lines_of rest) mark) ∙ append-nil (take at bytes)))),
-      sym (was.behind ∙ (ap behind_mark first ∙ (behind-mark line (lines_of rest) mark ∙ ap lines_of (drop-drop len at bytes)))),
-    )
-
--- or there is none
-pub meets-end : (bytes : List ℕ) → IsPassed bytes (length bytes)
-    → (bytes ≡ before_mark (lines_of bytes)) × (lines_of (drop (length bytes) bytes) ≡ behind_mark (lines_of bytes))
-meets-end bytes was =
-    let none : drop (length bytes) bytes ≡ [] = drop-length bytes in (
-      sym (was.before ∙ (ap (λ r. take (length bytes) bytes ++ before_mark (lines_of r)) none ∙ (append-nil (take (length bytes) bytes) ∙ take-length bytes))),
-      sym (was.behind ∙ (ap (λ r. behind_mark (lines_of r)) none ∙ ap lines_of (sym none))),
-    )
 
 pub cut-on : (clients at : ℕ) (lines : List (List ℕ)) → at < clients
     → cut_lines (clients - at) lines ≡ before_mark lines ∷ cut_lines (clients - (at + 1)) (behind_mark lines)

@@ -1,19 +1,13 @@
 -- The first line of a script, and what follows it.
-use Rattle.std.proofs.Common.{◌≡◌, ℕ, ◌+◌, ◌<◌, ◌≤◌, Bool, true, false, not, cond, ltb, List, [], ◌∷◌, length, get_or, Some, None, unwrap_or, inl, inr, refl, sym, ap, ◌∙◌, arith, map, subst}
+use Rattle.std.proofs.Common.{◌≡◌, ℕ, ◌+◌, ◌<◌, ◌≤◌, Bool, true, false, not, cond, List, [], ◌∷◌, length, get_or, inl, inr, refl, sym, ap, ◌∙◌, arith, map, subst}
 use Rattle.std.proofs.lemmas.Bool.Decides.{nat_tests}
 use Rattle.std.proofs.lemmas.Bool.{cases_Bool, cases_lt, false≢true}
-use Rattle.std.proofs.lemmas.List.Sums.{prefix_len-le-length, prefix_len_passes, prefix_len_stops}
+use Rattle.std.proofs.lemmas.List.Sums.{prefix_len_passes, prefix_len_stops}
 use Rattle.std.proofs.lemmas.List.Elements.{All-from_get_or, All-contains, Contains-get_or}
 use Rattle.std.specs.List.{onto_first, position_or_len, All, Contains}
 use Rattle.script_text.specs.Lines.{is_feed, lines_of}
 use Rattle.script_text.specs.Script.{line_of, script_of}
 use Rattle.script_text.specs.declared.commands.Line.{Line}
-
-pub found_or : (n len : ℕ) → n ≤ len → unwrap_or (cond (ltb n len) (Some n) None) len ≡ n
-found_or n len le = grind (arith, nat_tests)
-
-pub place_le : (bytes : List ℕ) → position_or_len is_feed bytes ≤ length bytes
-place_le bytes = prefix_len-le-length (λ b. not (is_feed b)) bytes
 
 lines_at_feed : (b : ℕ) (bs : List ℕ) → is_feed b ≡ true → lines_of (b ∷ bs) ≡ (b ∷ []) ∷ lines_of bs
 lines_at_feed b bs hit = ap (λ c. cond c ((b ∷ []) ∷ lines_of bs) (onto_first b (lines_of bs))) hit

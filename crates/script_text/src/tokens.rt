@@ -35,7 +35,8 @@ fn behind(line: &[u8], place: usize) -> &[u8]
 
 // Adds what stands there before the first blank, where that isn't nothing, and says what stands behind it.
 fn take_token<'a>(tokens: &mut Vec<&'a [u8]>, line: &'a [u8]) -> Result<&'a [u8], AllocError>
-    ensures tokens { IfOk result (λ rest. map (λ token. token.now) tokens.old.items ++ tokens_of line.now ≡ map (λ token. token.now) tokens.new.items ++ tokens_of rest.now) }
+    ensures tokens { IfOk result (λ rest. map (λ token. token.now) tokens.old.items ++ tokens_of line.now
+        ≡ map (λ token. token.now) tokens.new.items ++ tokens_of rest.now) }
     ensures less { IfOk result (λ rest. 0 < length line.now → length rest.now < length line.now) }
 {
     let end = end_of_token(line);

@@ -1,5 +1,5 @@
 -- Each call of a script comes to what the plain registry answers.
-use Rattle.std.proofs.Common.{◌≡◌, ℕ, zero, suc, ◌<◌, ◌≤◌, Bool, true, false, ◌&&◌, cond, eqb, List, [], ◌∷◌, ◌++◌, length, get_or, set, refl, ap, sym, ◌∙◌, subst, arith, Option, Some, None, Err, IsSome, append_assoc}
+use Rattle.std.proofs.Common.{◌≡◌, ℕ, zero, suc, ◌<◌, ◌≤◌, Bool, true, false, cond, eqb, List, [], ◌∷◌, ◌++◌, length, get_or, set, refl, ap, sym, ◌∙◌, subst, arith, Option, Some, None, Err, IsSome, append_assoc}
 use Rattle.std.specs.Prelude.{slice_get}
 use Rattle.std.specs.List.{list_all}
 use Rattle.kc_base.specs.declared.error_numbers.Errno.TheVariants.{ENOENT}
@@ -22,9 +22,9 @@ use Rattle.alg_registry.proofs.Fresh.{is_listed-within}
 use Rattle.alg_registry.proofs.Keeping.{driver-within, kept-unlist, kept-get, kept-put, put-within}
 use Rattle.alg_registry.proofs.Registering.{rows_of-registered}
 use Rattle.alg_registry.proofs.Steps.{IsQuiet, LegalReg-push}
-use Rattle.templates.specs.Looking.{Found, NonePending, found_in}
+use Rattle.templates.specs.LookResults.{Found, NonePending, found_in}
 use Rattle.templates.specs.Table.{table}
-use Rattle.templates.specs.Resolving.{weight_of}
+use Rattle.templates.specs.Resolution.{weight_of}
 use Rattle.dialogues.specs.RegistryCalls.{RegCall, Enlists, Looks, Unlists, Gets, Puts, Counts, Lists, reg_call_of, is_settled}
 use Rattle.sequential_model.specs.Registry.{PlainRegistry, first_registry, registry_after, with_rows, changed, changed_by}
 use Rattle.sequential_model.proofs.Agreeing.{IsRegistryOf, is_building}
@@ -115,10 +115,6 @@ own false c call e = absurd cc
 found_there : (o : Option Found) (text : List ℕ) → is_settled (Looks text o) ≡ true → (f : Found) × (o ≡ Some f)
 found_there None text e = absurd cc
 found_there (Some f) text e = (f, refl)
-
-both : (a b : Bool) → (a && b) ≡ true → (a ≡ true) × (b ≡ true)
-both true b e = (refl, e)
-both false b e = absurd cc
 
 -- the call's entry, and building after it
 one_call : AreLighter table weight_of → (h work : List RegEntry) (registry : PlainRegistry) (e : RegEntry) (call : RegCall) → LegalReg h → IsRight h e → MayFollow (h ++ e ∷ []) work → IsMade table h e → MadeAfter table (h ++ e ∷ []) work → Made table h → NonePending h → IsRegistryOf registry h

@@ -1,5 +1,5 @@
 -- Larvals that wait for one another, and what the plain builder has still to do for them.
-use Rattle.std.proofs.Common.{◌≡◌, ℕ, zero, suc, ◌+◌, ◌<◌, ◌≤◌, ◌⊎◌, inl, inr, true, List, [], ◌∷◌, ◌++◌, length, drop, refl, ap, sym, ◌∙◌, arith, Option, Some, None, Result, Ok, Err}
+use Rattle.std.proofs.Common.{◌≡◌, ℕ, ◌+◌, ◌<◌, ◌≤◌, ◌⊎◌, inl, inr, true, List, [], ◌∷◌, ◌++◌, length, drop, refl, ap, sym, ◌∙◌, arith, Option, Some, None, Result, Ok, Err}
 use Rattle.std.specs.Prelude.{slice_get}
 use Rattle.std.specs.List.{cons_option}
 use Rattle.std.specs.Option.{option_or, option_and_then}
@@ -14,12 +14,11 @@ use Rattle.alg_registry.specs.Rows.{texts, begun_by, ends}
 use Rattle.alg_registry.specs.Legal.{ended_as}
 use Rattle.alg_registry.specs.Made.{Templates, building, last_of, looks_for, look_for, if_of, outcome, outcomes, outcome_of, all_outcomes, next_child, next_of, made_answer, by_children, by_outcomes}
 use Rattle.alg_registry.proofs.Stack.{texts-push, ended-push, ended-stays, looks-push}
+use Rattle.alg_registry.proofs.Histories.{get_more}
+use Rattle.templates.proofs.ChildLooks.{get_within}
 use Rattle.sequential_model.specs.Registry.{PlainRegistry, LookedUp, and_then, with_children, looked}
 
 -- ---- what the plain builder has still to do
-
-abbrev pub look_at : Templates → ℕ → PlainRegistry → List ℕ → LookedUp
-look_at t levels registry text = looked t levels true registry text
 
 -- where the looks for the children came to this
 abbrev pub on_children : Templates → ℕ → List ℕ → PlainRegistry → Result (List ℕ) Errno → Result (List (List ℕ)) Errno → LookedUp
@@ -80,18 +79,8 @@ pub data Never (t : Templates) (weigh : List ℕ → ℕ) (g : List RegEntry) : 
 
 -- ---- what stays
 
-pub get_append : {A : Type 0} (xs ys : List A) (n : ℕ) (x : A) → slice_get xs n ≡ Some x → slice_get (xs ++ ys) n ≡ Some x
-get_append [] ys n x e = absurd cc
-get_append (y ∷ xs) ys zero x e = e
-get_append (y ∷ xs) ys (suc n) x e = get_append xs ys n x e
-
-pub get_within : {A : Type 0} (xs : List A) (n : ℕ) (x : A) → slice_get xs n ≡ Some x → n < length xs
-get_within [] n x e = absurd cc
-get_within (y ∷ xs) zero x e = omega arith
-get_within (y ∷ xs) (suc n) x e = let r : n < length xs = get_within xs n x e in omega (arith, r)
-
 pub text_stays : (g : List RegEntry) (e : RegEntry) (n : ℕ) (x : List ℕ) → slice_get (texts g) n ≡ Some x → slice_get (texts (g ++ e ∷ [])) n ≡ Some x
-text_stays g e n x at = ap (λ ts. slice_get ts n) (texts-push g e) ∙ get_append (texts g) (cons_option (begun_by e) []) n x at
+text_stays g e n x at = ap (λ ts. slice_get ts n) (texts-push g e) ∙ get_more (texts g) (cons_option (begun_by e) []) n x at
 
 pub unended_stays : (g : List RegEntry) (e : RegEntry) (n : ℕ) → n < length (texts g) → ended_as g n ≡ None → ends n e ≡ None → ended_as (g ++ e ∷ []) n ≡ None
 unended_stays g e n lt undone none = ended-push g e n lt ∙ (ap (λ o. option_or o (ends n e)) undone ∙ none)

@@ -6,6 +6,7 @@ use Rattle.std.specs.Option.{option_or, option_and_then, option_map}
 use Rattle.std.specs.Str.{bytes_eq}
 use Rattle.std.proofs.lemmas.List.{append-nil}
 use Rattle.std.proofs.lemmas.Slice.Eq.{bytes_eq-Decides}
+use Rattle.std.proofs.lemmas.Bool.{and_parts}
 use Rattle.kc_base.specs.declared.error_numbers.Errno.{Errno}
 use Rattle.kc_base.specs.declared.error_numbers.Errno.TheVariants.{ENOENT}
 use Rattle.alg_registry.specs.declared.row.Larval.{Larval}
@@ -23,13 +24,15 @@ use Rattle.alg_registry.specs.Legal.{ended_as, LegalReg, IsRight, MayFollow}
 use Rattle.alg_registry.specs.Made.{Templates, IsMade, MadeAfter, building, last_of, looks_for, outcome, outcomes, next_child, next_of, made_answer}
 use Rattle.alg_registry.proofs.Steps.{LegalReg-push}
 use Rattle.alg_registry.proofs.Stack.{texts-push, length-texts, ended-push, ended-new, claimed-there, looks-push, looks-fresh, larval_get, same}
-use Rattle.templates.specs.Looking.{NonePending}
+use Rattle.templates.specs.LookResults.{NonePending}
+use Rattle.templates.proofs.ChildLooks.{get_within}
+use Rattle.templates.proofs.Looks.{at_last, pending_driver, position_at}
 use Rattle.alg_registry.proofs.Looks.{began_new}
 use Rattle.sequential_model.specs.Registry.{PlainRegistry, LookedUp, looked}
 use Rattle.sequential_model.proofs.Agreeing.{IsRegistryOf, is_building}
 use Rattle.sequential_model.proofs.Building.{last_built}
-use Rattle.sequential_model.proofs.Chains.{Frame, Chained, Among, AreHeavier, Wanting, get_within, chain_unasked, chain_unmade, chain_open, never_none}
-use Rattle.sequential_model.proofs.Finding.{position_at, pending_driver, at_last, found_by, began_by, absent_by}
+use Rattle.sequential_model.proofs.Chains.{Frame, Chained, Among, AreHeavier, Wanting, chain_unasked, chain_unmade, chain_open, never_none}
+use Rattle.sequential_model.proofs.Finding.{found_by, began_by, absent_by}
 use Rattle.sequential_model.proofs.Knowing.{known_quiet}
 use Rattle.sequential_model.proofs.Lookups.{looked_found, looked_absent, looked_built}
 use Rattle.sequential_model.proofs.Phases.{AreLighter, Going, Phase, Goes, Ends, Fails, never_step, never_up, never_among}
@@ -41,17 +44,13 @@ is_none_none : {A : Type 0} (o : Option A) → is_none o ≡ true → o ≡ None
 is_none_none None e = refl
 is_none_none (Some a) e = absurd cc
 
-both : (a b : Bool) → (a && b) ≡ true → (a ≡ true) × (b ≡ true)
-both true b e = (refl, e)
-both false b e = absurd cc
-
 -- a look that answers so saw a larval of its text that hasn't ended
 pub pending_larval : (g : List RegEntry) (x : List ℕ) (plain : Bool) (k : ℕ) → look_answer (rows_of g) (larvals_of g) x plain ≡ Pending k → (j : ℕ) × (slice_get (texts g) j ≡ Some x) × (ended_as g j ≡ None)
 pending_larval g x plain k e =
     let place = pending_driver (rows_of g) (larvals_of g) x plain k (position_from (λ row. may_find plain row && bytes_eq row.spec.driver x) 0 (rows_of g)) e in
     let found = position_at (is_pending x) 0 k (larvals_of g) place in
     let larval : Larval = found.2 in
-    let two = both (is_none larval.ended) (bytes_eq larval.text x) found.4 in
+    let two = and_parts (is_none larval.ended) (bytes_eq larval.text x) found.4 in
     (found.0, at_text found.0 larval found.3 ((bytes_eq-Decides larval.text x).0 two.1) (slice_get (texts g) found.0) refl, ap (λ o. option_and_then (λ (y : Larval). y.ended) o) found.3 ∙ is_none_none larval.ended two.0)
   where
     at_text : (j : ℕ) (larval : Larval) → slice_get (larvals_of g) j ≡ Some larval → larval.text ≡ x → (o : Option (List ℕ)) → slice_get (texts g) j ≡ o → slice_get (texts g) j ≡ Some x
@@ -169,7 +168,7 @@ phase_step t weigh g e answer came light legal right made work (Fails first bega
 pub phase_run : (t : Templates) (weigh : List ℕ → ℕ) (g more : List RegEntry) (answer : Looked) (came : LookedUp) → AreLighter t weigh → LegalReg g → MayFollow g more → MadeAfter t g more → list_all is_building more ≡ true → Phase t weigh g answer came → Phase t weigh (g ++ more) answer came
 phase_run t weigh g [] answer came light legal follows made work phase = subst (λ x. Phase t weigh x answer came) (sym (append-nil g)) phase
 phase_run t weigh g (e ∷ more) answer came light legal follows made work phase =
-    let w = both (is_building e) (list_all is_building more) work in
+    let w = and_parts (is_building e) (list_all is_building more) work in
     subst (λ x. Phase t weigh x answer came) (append_assoc g (e ∷ []) more)
     (phase_run t weigh (g ++ e ∷ []) more answer came light (LegalReg-push g e legal follows.0) follows.1 made.1 w.1 (phase_step t weigh g e answer came light legal follows.0 made.0 w.0 phase))
 

@@ -1,13 +1,12 @@
 -- What a look answers is what the plain registry finds.
-use Rattle.std.proofs.Common.{◌≡◌, ℕ, zero, suc, ◌+◌, arith, Bool, true, false, cond, ◌&&◌, ◌||◌, List, [], ◌∷◌, ◌++◌, length, refl, ap, sym, ◌∙◌, Option, Some, None}
-use Rattle.std.specs.Prelude.{slice_get}
+use Rattle.std.proofs.Common.{◌≡◌, ℕ, ◌+◌, Bool, true, false, cond, ◌&&◌, ◌||◌, List, [], ◌∷◌, length, refl, ap, sym, ◌∙◌, Option, Some, None}
 use Rattle.std.specs.List.{list_any, position_from}
 use Rattle.std.specs.Option.{option_or, option_map}
 use Rattle.std.specs.Str.{bytes_eq}
 use Rattle.alg_registry.specs.declared.row.Row.{Row}
 use Rattle.alg_registry.specs.declared.row.Larval.{Larval}
 use Rattle.alg_registry.specs.declared.entry.Looked.{Looked}
-use Rattle.alg_registry.specs.declared.entry.Looked.TheVariants.{Found, Pending, Began, Absent}
+use Rattle.alg_registry.specs.declared.entry.Looked.TheVariants.{Found, Began, Absent}
 use Rattle.alg_registry.specs.declared.entry.RegEntry.{RegEntry}
 use Rattle.alg_registry.specs.Rows.{rows_of, larvals_of}
 use Rattle.alg_registry.specs.Answers.{may_find, better, best_from, ended_with, is_pending, is_template, look_answer, found_driver, found_best, not_found}
@@ -71,42 +70,7 @@ none_absent larvals text None None e = (refl, by_place (position_from (is_pendin
     by_place (Some m) f = absurd cc
     by_place None f = by (is_template text) f
 
--- ---- a look that saw a larval of its text
-
-pub position_at : {A : Type 0} (p : A → Bool) (from k : ℕ) (xs : List A) → position_from p from xs ≡ Some k → (j : ℕ) × (k ≡ from + j) × (x : A) × (slice_get xs j ≡ Some x) × (p x ≡ true)
-position_at p from k [] e = absurd cc
-position_at p from k (x ∷ xs) e = here (p x) refl e (position_at p (from + 1) k xs)
-  where
-    here : (b : Bool) → p x ≡ b → cond b (Some from) (position_from p (from + 1) xs) ≡ Some k
-        → (position_from p (from + 1) xs ≡ Some k → (j : ℕ) × (k ≡ (from + 1) + j) × (y : _) × (slice_get xs j ≡ Some y) × (p y ≡ true))
-        → (j : ℕ) × (k ≡ from + j) × (y : _) × (slice_get (x ∷ xs) j ≡ Some y) × (p y ≡ true)
-    here true q f later = let g : from ≡ k = cc in (zero, omega (arith, g), x, refl, q)
-    here false q f later = let r = later f in (suc r.0, omega (arith, r.1), r.2, r.3, r.4)
-
-pending_answer : (larvals : List Larval) (text : List ℕ) (k : ℕ) (o : Option ℕ) → not_found larvals text o ≡ Pending k → o ≡ Some k
-pending_answer larvals text k (Some n) e = let f : n ≡ k = cc in ap (λ (m : ℕ). Some m) f
-pending_answer larvals text k None e = absurd (no (is_template text) e)
-  where
-    no : (b : Bool) → cond b (Began (length larvals)) Absent ≡ Pending k → ⊥
-    no true q = cc
-    no false q = cc
-
-pending_best : (larvals : List Larval) (text : List ℕ) (k : ℕ) (o : Option (ℕ × ℕ)) → found_best larvals text o ≡ Pending k → position_from (is_pending text) 0 larvals ≡ Some k
-pending_best larvals text k (Some best) e = absurd cc
-pending_best larvals text k None e = pending_answer larvals text k (position_from (is_pending text) 0 larvals) e
-
-pub pending_driver : (rows : List Row) (larvals : List Larval) (text : List ℕ) (plain : Bool) (k : ℕ) (o : Option ℕ) → found_driver rows larvals text plain o ≡ Pending k → position_from (is_pending text) 0 larvals ≡ Some k
-pending_driver rows larvals text plain k (Some id) e = absurd cc
-pending_driver rows larvals text plain k None e = pending_best larvals text k (best_from larvals text plain 0 rows) e
-
-pub at_last : (ts : List (List ℕ)) (n : ℕ) (t : List ℕ) → n ≡ length ts → slice_get (ts ++ t ∷ []) n ≡ Some t
-at_last [] n t e = ap (λ m. slice_get (t ∷ []) m) e
-at_last (u ∷ ts) n t e = ap (λ m. slice_get (u ∷ (ts ++ t ∷ [])) m) e ∙ at_last ts (length ts) t refl
-
 -- ---- over a history
-
-place_of : PlainRegistry → List ℕ → Bool → Option ℕ
-place_of registry text plain = position_from (is_plain_driver text plain) 0 registry.rows
 
 as_answered : (rows : List Row) (larvals : List Larval) (text : List ℕ) (plain : Bool) (place : Option ℕ) → found_driver rows larvals text plain place ≡ answered larvals text place (best_from larvals text plain 0 rows)
 as_answered rows larvals text plain (Some id) = refl

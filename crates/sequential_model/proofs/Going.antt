@@ -17,11 +17,12 @@ use Rattle.alg_registry.specs.Legal.{ended_as, LegalReg, IsRight}
 use Rattle.alg_registry.specs.Made.{Templates, IsMade, building, last_of, looks_for, look_for, if_of, outcome, outcomes, outcome_of, next_child, next_of, made_answer}
 use Rattle.alg_registry.proofs.Steps.{IsQuiet}
 use Rattle.alg_registry.proofs.Stack.{texts-push, length-texts, ended-push, ended-stays, ended-new, claimed-there, looks-push, looks-fresh, same, unequal}
-use Rattle.sequential_model.proofs.Finding.{at_last}
+use Rattle.templates.proofs.ChildLooks.{get_within}
+use Rattle.templates.proofs.Looks.{at_last}
 use Rattle.sequential_model.specs.Registry.{PlainRegistry, LookedUp, looked, ended as ended_by}
 use Rattle.sequential_model.proofs.Agreeing.{is_building}
 use Rattle.sequential_model.proofs.Building.{last_built, pending_open}
-use Rattle.sequential_model.proofs.Chains.{Frame, with_child, resumed, finishing, Waits, Chained, Among, AreHeavier, get_within, text_stays, unended_stays, outcome_stays, outcomes_stay, looks_stay, chained_stays}
+use Rattle.sequential_model.proofs.Chains.{Frame, with_child, resumed, finishing, Waits, Chained, Among, AreHeavier, text_stays, unended_stays, outcome_stays, outcomes_stay, looks_stay, chained_stays}
 use Rattle.sequential_model.proofs.Knowing.{known_quiet, known_ended}
 use Rattle.sequential_model.proofs.Lookups.{added, outcomes_added, with_child_is, finishing_next, finishing_end, ended_comes}
 use Rattle.sequential_model.proofs.Phases.{Going, Over, Phase, Goes, Ends}
@@ -40,9 +41,6 @@ no_more g e n none lt = omega (arith, lt, length-texts g e, ap (λ (o : Option (
 
 pub none_some : {A : Type 0} (o : Option A) (x : A) → o ≡ None → o ≡ Some x → ⊥
 none_some o x p q = let f : None ≡ Some x = sym p ∙ q in cc
-
-some_same : {A : Type 0} {x y : A} → Some x ≡ Some y → x ≡ y
-some_same e = cc
 
 -- it registers nothing, begins nothing and ends nothing
 pub record IsAside (e : RegEntry) : Type 0 where

@@ -37,10 +37,6 @@ swap false b c = refl
 
 -- ---- the larvals that ended with an entry
 
--- whether larvals of the text, from a number on, ended with the entry
-any : List ℕ → ℕ → List RegEntry → ℕ → List (List ℕ) → Bool
-any text id h first ts = list_any (ended_with text id) (larvals_from h first ts)
-
 any_same : (text : List ℕ) (id : ℕ) (h h' : List RegEntry) (first : ℕ) (ts : List (List ℕ)) → ((n : ℕ) → first ≤ n → first_of (ends n) h' ≡ first_of (ends n) h)
     → list_any (ended_with text id) (larvals_from h' first ts) ≡ list_any (ended_with text id) (larvals_from h first ts)
 any_same text id h h' first [] same = refl

@@ -1,6 +1,5 @@
 pub mod Agreeing
 pub mod Asking
-pub mod Growing
 pub mod Behaving
 pub mod Standing
 pub mod Callbacks

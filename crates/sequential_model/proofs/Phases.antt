@@ -1,11 +1,9 @@
 -- How a look goes on until its larval ends.
 use Rattle.std.proofs.Common.{◌≡◌, ◌≢◌, ℕ, ◌<◌, ◌≤◌, ◌⊎◌, inl, inr, Bool, true, false, not, cond, eqb, List, [], ◌∷◌, ◌++◌, length, refl, ap, sym, ◌∙◌, subst, arith, Option, Some, None, Result, Ok}
 use Rattle.std.specs.Prelude.{slice_get}
-use Rattle.std.specs.List.{cons_option}
 use Rattle.std.specs.Option.{option_or, option_and_then}
 use Rattle.std.proofs.lemmas.Bool.Decides.{nat_tests}
 use Rattle.kc_base.specs.declared.error_numbers.Errno.{Errno}
-use Rattle.alg_registry.specs.declared.entry.Ended.{Ended}
 use Rattle.alg_registry.specs.declared.entry.Ended.TheVariants as ended
 use Rattle.alg_registry.specs.declared.entry.Looked.{Looked}
 use Rattle.alg_registry.specs.declared.entry.Looked.TheVariants.{Began}
@@ -14,13 +12,14 @@ use Rattle.alg_registry.specs.declared.entry.EndAnswer.TheVariants.{Built, Joine
 use Rattle.alg_registry.specs.declared.entry.RegEntry.{RegEntry}
 use Rattle.alg_registry.specs.declared.entry.RegEntry.TheVariants.{Enlist, Look, Claim, End, Waited, Unlist, Get, Put, Refs}
 use Rattle.alg_registry.specs.declared.entry.RegEntry.TheVariants as entry
-use Rattle.alg_registry.specs.Rows.{texts, begun_by, ends, end_of}
+use Rattle.alg_registry.specs.Rows.{texts, ends, end_of}
 use Rattle.alg_registry.specs.Legal.{ended_as, IsRight}
 use Rattle.alg_registry.specs.Made.{Templates, IsMade, building, last_of, looks_for, look_for, if_of, outcome, outcomes, outcome_of, next_child, made_answer}
-use Rattle.alg_registry.proofs.Stack.{length-texts, ended-push, ended-stays, same, unequal}
+use Rattle.alg_registry.proofs.Stack.{ended-push, ended-stays, same, unequal}
+use Rattle.templates.proofs.ChildLooks.{get_within}
 use Rattle.sequential_model.specs.Registry.{PlainRegistry, LookedUp}
 use Rattle.sequential_model.proofs.Agreeing.{IsRegistryOf}
-use Rattle.sequential_model.proofs.Chains.{Frame, resumed, finishing, Waits, Chained, Among, AreHeavier, Never, Wanting, Behind, get_within, waits_stay, waits_unasked, waits_unmade, never_none}
+use Rattle.sequential_model.proofs.Chains.{Frame, resumed, finishing, Waits, Chained, Among, AreHeavier, Never, Wanting, Behind, waits_stay, waits_unasked, waits_unmade, never_none}
 
 -- what a name asks for is lighter
 abbrev pub AreLighter : Templates → (List ℕ → ℕ) → Type 0
@@ -63,16 +62,6 @@ pub data Phase (t : Templates) (weigh : List ℕ → ℕ) (g : List RegEntry) (a
   Fails : (first : ℕ) → answer ≡ Began first → Never t weigh g first → Phase t weigh g answer came
 
 -- ---- entries
-
-no_end : (g : List RegEntry) (e : RegEntry) (n : ℕ) → ended_as (g ++ e ∷ []) n ≡ None → ended_as g n ≡ None
-no_end g e n none = by (ended_as g n) refl
-  where
-    by : (o : Option Ended) → ended_as g n ≡ o → ended_as g n ≡ None
-    by None q = q
-    by (Some x) q = absurd (let f : None ≡ Some x = sym none ∙ ended-stays g e n x q in cc)
-
-no_more : (g : List RegEntry) (e : RegEntry) (n : ℕ) → begun_by e ≡ None → n < length (texts (g ++ e ∷ [])) → n < length (texts g)
-no_more g e n none lt = omega (arith, lt, length-texts g e, ap (λ (o : Option (List ℕ)). length (cons_option o [])) none)
 
 if_not : (n m : ℕ) (a : Looked) → m ≢ n → if_of n (Some (m, a)) ≡ None
 if_not n m a ne = ap (λ b. cond b (Some a) None) (unequal m n ne)

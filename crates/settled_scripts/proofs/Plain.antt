@@ -1,9 +1,10 @@
 -- A turn whose calls came to what is plain says what the plain pass says.
-use Rattle.std.proofs.Common.{◌≡◌, Bool, true, false, ◌&&◌, List, [], ◌∷◌, ◌++◌, refl, ap, sym, ◌∙◌, subst, Option, Some, None}
+use Rattle.std.proofs.Common.{◌≡◌, Bool, true, List, [], ◌∷◌, ◌++◌, refl, ap, sym, ◌∙◌, subst, Option, Some, None}
 use Rattle.std.specs.Prelude.{slice_get}
 use Rattle.std.specs.Option.{option_map_or}
+use Rattle.std.proofs.lemmas.Bool.{and_parts}
 use Rattle.board.specs.declared.entry.Entered.TheVariants.{NoSpace}
-use Rattle.templates.specs.Looking.{Found}
+use Rattle.templates.specs.LookResults.{Found}
 use Rattle.dialogues.specs.RegistryCalls.{RegCall}
 use Rattle.dialogues.specs.BoardCalls.{BoardCall}
 use Rattle.dialogues.specs.Questions.{RegQuestion, RegAnswer, Enlist, Look, Unlist, Get, Put, Count, ListAll, reg_call, reg_answer, BoardQuestion, BoardAnswer, Create, Submit, Enqueue, Hold, Go, Poll, Drain, Close, Share, Mask, Shut, board_call, board_answer}
@@ -13,7 +14,7 @@ use Rattle.dialogues.specs.ScriptState.{ScriptState}
 use Rattle.sequential_model.specs.Laws.{IsAnsweredBy, AreAnsweredBy, ThereIs, IsTimelessCall, IsToldBy, AreToldBy}
 use Rattle.sequential_model.specs.Pipelines.{Pipeline, next_number, verdict_of, drained_from, reply_in, is_timeless, pipelines_after}
 use Rattle.sequential_model.specs.Registry.{PlainRegistry, answer_in, registry_after}
-use Rattle.settled_scripts.specs.Passing.{IsAsPassed}
+use Rattle.settled_scripts.specs.PlainRuns.{IsAsPassed}
 use Rattle.settled_scripts.specs.Settled.{Passed, pass}
 
 -- ---- answers
@@ -62,10 +63,6 @@ timeless_call pipelines (Share pipe) a timeless = absurd cc
 timeless_call pipelines (Mask pipe bits) a timeless = tt
 timeless_call pipelines Shut a timeless = tt
 
-both : (a b : Bool) → (a && b) ≡ true → (a ≡ true) × (b ≡ true)
-both true b e = (refl, e)
-both false b e = absurd cc
-
 -- ---- turns
 
 abbrev timeless_in : Passed → Bool
@@ -112,7 +109,7 @@ follows (Posts q next) cr (call ∷ cb) script_state registry pipelines whole an
     by None w go = absurd (let e = w.after in cc)
     by (Some answer) w go =
         let then_pipelines : List Pipeline = pipelines_after pipelines (board_call q (reply_in pipelines q)) in
-        let t = both (is_timeless pipelines q) (timeless_in (pass (next (reply_in pipelines q)) registry then_pipelines)) timeless in
+        let t = and_parts (is_timeless pipelines q) (timeless_in (pass (next (reply_in pipelines q)) registry then_pipelines)) timeless in
         let head : board_call q answer ≡ call = (let e = w.board in cc) in
         let tail : (let u : Transcript = transcript_of (next answer) cr cb in u.board) ≡ cb = (let e = w.board in cc) in
         let tells = told (subst (λ c. IsTimelessCall pipelines c) head (timeless_call pipelines q answer t.0)) in

@@ -56,8 +56,11 @@ fn walk_part<W: Walker>(
 ) -> usize
     requires within { i < length parts.old }
     requires inside { skip < length (slice_index_or parts.old i []) }
-    ensures stepped { Stepped W.makes walker.old parts.old parts.new walker.new (length (concat (take i parts.old)) + skip) (length (slice_index_or parts.old i []) + result - skip) }
-    ensures whole { length (slice_index_or parts.old i []) + result < length (concat (drop i parts.old)) → (length (slice_index_or parts.old i []) + result - skip) % 16 ≡ 0 }
+    ensures stepped { Stepped W.makes walker.old parts.old parts.new walker.new
+        (length (concat (take i parts.old)) + skip)
+        (length (slice_index_or parts.old i []) + result - skip) }
+    ensures whole { length (slice_index_or parts.old i []) + result < length (concat (drop i parts.old))
+        → (length (slice_index_or parts.old i []) + result - skip) % 16 ≡ 0 }
 {
     let len = parts[i].len();
     let whole = (len - skip) / 16 * 16;

@@ -16,5 +16,6 @@ pub trait Walker {
     ghost stays: { (walker : Self) → makes walker [] [] walker };
 
     /// A text of whole blocks and a text behind it are one text.
-    ghost joins: { (u v w : Self) (a b made_a made_b : List ℕ) → length a % 16 ≡ 0 → makes u a made_a v → makes v b made_b w → makes u (a ++ b) (made_a ++ made_b) w };
+    ghost joins: { (u v w : Self) (a b made_a made_b : List ℕ) → length a % 16 ≡ 0
+        → makes u a made_a v → makes v b made_b w → makes u (a ++ b) (made_a ++ made_b) w };
 }

@@ -1,10 +1,10 @@
 -- Words and working variables of eight blocks, lane by lane.
-use Rattle.std.proofs.Common.{◌≡◌, ℕ, zero, suc, ◌<◌, List, [], ◌∷◌, length, map, slice_index, slice_index_or, bit_and, bit_xor, w32, refl, sym, ap, ◌∙◌, arith}
+use Rattle.std.proofs.Common.{◌≡◌, ℕ, zero, suc, ◌<◌, List, [], ◌∷◌, length, map, slice_index, slice_index_or, bit_and, bit_xor, w32, refl, sym, ◌∙◌, arith}
 use Rattle.std.specs.Int.{bit_not}
 use Rattle.std.proofs.lemmas.List.{get_or-map, length-map}
 use Rattle.std.proofs.lemmas.Simd.{get_or-zip2, length-zip2}
 use lib.Lanes.{zip2}
-use Rattle.sha2.specs.Sha256.{ch, maj, rounds}
+use Rattle.sha2.specs.Sha256.{ch, maj}
 use Rattle.sha_lanes.specs.Lanes.{in_lane}
 use Rattle.sha_lanes.proofs.Majority.{majority}
 
@@ -50,7 +50,3 @@ pub variable : (v : List (List ℕ)) (n i : ℕ) → slice_index (in_lane v n) i
 variable [] n i = refl
 variable (x ∷ v) n zero = refl
 variable (x ∷ v) n (suc i) = variable v n i
-
--- the same rounds, counted otherwise
-pub counted : (h w : List ℕ) {x : List ℕ} {t u : ℕ} → t ≡ u → x ≡ rounds h w t → x ≡ rounds h w u
-counted h w e held = held ∙ ap (rounds h w) e

@@ -49,7 +49,8 @@ fn next_word(words: &[u32; 64], t: usize) -> u32
 #[inline(always)]
 fn step(words: &mut [u32; 64], v: [u32; 8], t: usize, word: u32) -> [u32; 8]
     requires { t < 64 }
-    ensures { (h b : List ℕ) → word ≡ slice_index (schedule b 48) t → IsRoundsAt h b words.old v t → IsRoundsAt h b words.new result (t + 1) }
+    ensures { (h b : List ℕ) → word ≡ slice_index (schedule b 48) t → IsRoundsAt h b words.old v t
+        → IsRoundsAt h b words.new result (t + 1) }
 {
     words[t] = word;
     round(v, word.wrapping_add(ROUND_CONSTANTS[t]))

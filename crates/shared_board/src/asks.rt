@@ -2,11 +2,10 @@
 
 ghost use Rattle.std.specs.Prelude.{◌≡◌, map, IfOk};
 ghost use Rattle.std.specs.Arc.{arc_value};
-ghost use Rattle.turn_lock.specs.Meeting.{AtTurn, Leaves};
 ghost use Rattle.turn_lock.specs.Passes.{knows};
-ghost use Rattle.board.specs.Entries.{entries_of, submissions, caller_of};
-ghost use Rattle.board.specs.Legal.{LegalBoard};
+ghost use Rattle.board.specs.Entries.{entries_of, submissions};
 ghost use Rattle.shared_board.specs.Passes.{IsPassOn};
+ghost use Rattle.shared_board.specs.Records.{RecordsNothing};
 
 use crate::shared::{BoardPass, SharedBoard};
 use board::Work;
@@ -14,8 +13,8 @@ use std::alloc::{AllocError, Global};
 use std::sync::{Arc, Wait};
 
 impl<W: Work> SharedBoard<W> {
-    /// What the pipeline accepted up to the pass's turn, in order, whoever asked. It looks at each entry of the history, and records
-    /// nothing.
+    /// What the pipeline accepted up to the pass's turn, in order, whoever asked. It looks at each entry of the
+    /// history, and records nothing.
     pub fn asks<R: Wait>(
         &self,
         rt: &R,
@@ -25,7 +24,7 @@ impl<W: Work> SharedBoard<W> {
         requires { IsPassOn self.now pass }
         ensures lock { IsPassOn self.now result.0 }
         ensures asks { IfOk result.1 (λ asks. map arc_value asks.items ≡ submissions (entries_of pipe (knows result.0).seen)) }
-        ensures turn { AtTurn caller_of LegalBoard (knows pass) (λ h. Leaves (knows pass) h (knows result.0)) }
+        ensures turn { RecordsNothing (knows pass) (knows result.0) }
     {
         let mut turn = self.turn(rt, pass);
         let answer = turn.get().asks(pipe);

@@ -21,11 +21,13 @@ use Rattle.alg_registry.specs.declared.entry.RegEntry.TheVariants as entry
 use Rattle.alg_registry.specs.Rows.{caller_of, texts, registered, rows_of, larvals_of, begun_by}
 use Rattle.alg_registry.specs.Legal.{LegalReg, is_worker, ended_as, claimer}
 use Rattle.alg_registry.specs.Made.{building, last_of, looks_for, look_for, if_of, outcome, outcomes, all_outcomes, next_of, next_child, with_spec, by_spec, by_children, by_outcomes, made_answer, IsMade}
+use Rattle.alg_registry.proofs.Histories.{text_more, registered_more, legal_front}
+use Rattle.alg_registry.proofs.Fresh.{length-larvals_of}
+use Rattle.alg_registry.proofs.OwnCalls.{last_any}
 use Rattle.templates.specs.Table.{table}
 use Rattle.turn_lock.specs.Turns.{Known, Shows}
 use Rattle.shared_registry.specs.Own.{open_of, IsOpen, own_looks, next_asked, handed_over, handed_by, handed, MayHand, MayLook}
 use Rattle.shared_registry.specs.Learned.{RegistryLaws}
-use Rattle.shared_registry.proofs.Histories.{legal_front, text_more, registered_more, last_any, length-larvals_of}
 
 next_is : (h : List RegEntry) (looks : List Looked) (children : List (List ℕ)) (ids : List ℕ) → outcomes h looks ≡ Some (Ok ids) → next_of h looks (Ok children) ≡ slice_get children (length ids)
 next_is h looks children ids e = rw e

@@ -10,6 +10,8 @@ use Rattle.alg_registry.specs.declared.entry.RegEntry.{RegEntry}
 use Rattle.alg_registry.specs.Rows.{texts, registered}
 use Rattle.alg_registry.specs.Legal.{claimer}
 use Rattle.alg_registry.specs.Made.{building, last_of, looks_for, outcome, outcomes, all_outcomes, next_of, with_spec}
+use Rattle.alg_registry.proofs.Histories.{text_more}
+use Rattle.alg_registry.proofs.OwnCalls.{last_any}
 use Rattle.alg_names.specs.Name.{Tree, spelling}
 use Rattle.templates.specs.Table.{table, children_of, derived_of, spellings, FaultIs}
 use Rattle.templates.specs.declared.build_errors.BuildErr.{BuildErr}
@@ -17,10 +19,9 @@ use Rattle.templates.specs.declared.build_errors.BuildErr.TheVariants.{Fault, Me
 use Rattle.turn_lock.specs.Turns.{Known}
 use Rattle.shared_registry.specs.Passes.{IsSound}
 use Rattle.shared_registry.specs.Own.{open_of, IsOpen, own_looks, IsOwn, next_asked, handed, handed_by, handed_over}
-use Rattle.shared_registry.specs.Building.{Looks, Comes, Resolves}
+use Rattle.shared_registry.specs.Builds.{Looks, Comes, Resolves}
 use Rattle.shared_registry.specs.Within.{Within, Begins, Idles, ChildrenCome, Builds}
 use Rattle.shared_registry.specs.Learned.{RegistryLaws, IsLearned}
-use Rattle.shared_registry.proofs.Histories.{text_more, last_any}
 use Rattle.shared_registry.proofs.Asking.{FoundExists, all_exist, Exist, outcomes_there}
 use Rattle.shared_registry.proofs.Waiting.{idles_works}
 use Rattle.shared_registry.proofs.Working.{own_on, within_works, within_on, within_look, own_look, works_still}

@@ -21,20 +21,24 @@ use Rattle.alg_registry.specs.Rows.{caller_of, texts, larvals_of, rows_of, first
 use Rattle.alg_registry.specs.Calls.{claimed_number, claimed_answer, text_at, UnlessNoMemory, OnNoMemory, MayLack, unless_memory, end_given, unclaimed_at, is_unclaimed}
 use Rattle.alg_registry.specs.Legal.{LegalReg, IsRight, ended_as}
 use Rattle.alg_registry.specs.Made.{building, last_of, looks_for, look_for, if_of, outcome_of}
+use Rattle.alg_registry.proofs.Histories.{text_more}
+use Rattle.alg_registry.proofs.LifetimeLaws.{right_at}
+use Rattle.alg_registry.proofs.Fresh.{length-larvals_of}
+use Rattle.alg_registry.proofs.Stack.{claimed-within, claimed-there, ended-push, last-snoc}
+use Rattle.alg_registry.proofs.OwnCalls.{last_any}
 use Rattle.templates.specs.declared.build_errors.BuildErr.{BuildErr}
 use Rattle.templates.specs.declared.build_errors.BuildErr.TheVariants.{Fault, Memory}
-use Rattle.templates.specs.Resolving.{result_of}
+use Rattle.templates.specs.Resolution.{result_of}
 use Rattle.turn_lock.specs.Turns.{Known, of}
 use Rattle.shared_registry.specs.Passes.{IsSound, EntersIf}
 use Rattle.shared_registry.proofs.Going.{Meets, Goes}
-use Rattle.turn_lock.specs.Meeting.{Enters, Leaves}
-use Rattle.turn_lock.specs.Meeting.{Meets as Met}
+use Rattle.turn_lock.specs.PassLaws.{Enters, Leaves}
+use Rattle.turn_lock.specs.PassLaws.{Meets as Met}
 use Rattle.shared_registry.specs.Faithful.{IsFaithful}
 use Rattle.shared_registry.specs.Own.{open_of, IsOpen, own_looks, IsOwn, MayHand}
-use Rattle.shared_registry.specs.Building.{Works, Ends}
+use Rattle.shared_registry.specs.Builds.{Works, Ends}
 use Rattle.shared_registry.specs.Within.{Within, Closes, BeginsText, Builds, EndsAs, ended_result, given_result}
 use Rattle.shared_registry.specs.Learned.{RegistryLaws}
-use Rattle.shared_registry.proofs.Histories.{right_at, text_more, length-larvals_of, claimed-within, claimed-there, ended-push, last-snoc, last_any}
 use Rattle.shared_registry.proofs.Asking.{open_at}
 use Rattle.shared_registry.proofs.Working.{own_on, open_push, looks_push, all_both, claimed_or, first_last}
 use Rattle.shared_registry.proofs.Going.{goes_on, goes_after, goes_nothing}

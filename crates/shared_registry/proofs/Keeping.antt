@@ -1,5 +1,5 @@
 -- A call of the registry leaves its history faithful.
-use Rattle.std.proofs.Common.{◌≡◌, ℕ, Bool, true, false, List, [], ◌∷◌, ◌++◌, Option, Some, None, Result, Ok, Err, sym, ◌∙◌, subst, append_assoc}
+use Rattle.std.proofs.Common.{◌≡◌, ℕ, Bool, List, [], ◌∷◌, ◌++◌, Option, Some, None, Result, Ok, Err, sym, ◌∙◌, subst, append_assoc}
 use Rattle.std.specs.Prelude.{IfOk, OnOk, OnErr}
 use Rattle.std.proofs.lemmas.List.{append-nil}
 use Rattle.alg_registry.specs.declared.entry.Ended.{Ended}
@@ -13,16 +13,12 @@ use Rattle.alg_registry.specs.Calls.{UnlessMemory, OnMemory, claim_entries, wait
 use Rattle.alg_registry.specs.Legal.{LegalReg}
 use Rattle.alg_registry.specs.Made.{Made, MadeAfter, IsMade}
 use Rattle.templates.specs.Table.{table}
+use Rattle.templates.proofs.Looks.{any_answer}
 use Rattle.shared_registry.specs.Faithful.{IsFaithful}
 
 made_after : (before h : List RegEntry) (e : RegEntry) → MadeAfter table before h → IsMade table (before ++ h) e → MadeAfter table before (h ++ e ∷ [])
 made_after before [] e made next = (subst (λ (past : List RegEntry). IsMade table past e) (append-nil before) next, tt)
 made_after before (x ∷ h) e made next = (made.0, made_after (before ++ x ∷ []) h e made.1 (subst (λ (past : List RegEntry). IsMade table past e) (sym (append_assoc before (x ∷ []) h)) next))
-
--- whether a look may be made hangs on no answer
-any_answer : (h : List RegEntry) (caller : ℕ) (text : List ℕ) (plain : Bool) (a b : Looked) → IsMade table h (Look caller text plain a) → IsMade table h (Look caller text plain b)
-any_answer h caller text true a b m = m
-any_answer h caller text false a b m = m
 
 module _ (old new : List RegEntry) (legal : LegalReg new) (before : IsFaithful old) where
   pub with_entry : (e : RegEntry) → new ≡ old ++ e ∷ [] → IsMade table old e → IsFaithful new

@@ -1,5 +1,4 @@
 pub mod Keeping
-pub mod Histories
 pub mod Going
 pub mod Turning
 pub mod Asking

@@ -1,8 +1,7 @@
 -- The entries below an instance, as they came to be.
-use Rattle.std.proofs.Common.{◌≡◌, ℕ, zero, suc, ◌+◌, ◌<◌, List, [], ◌∷◌, ◌++◌, length, take, get_or, ap, sym, ◌∙◌, subst, arith, Option, Some, None, Result, Ok}
+use Rattle.std.proofs.Common.{◌≡◌, ℕ, zero, suc, ◌+◌, ◌<◌, List, [], ◌∷◌, ◌++◌, length, take, get_or, ap, sym, ◌∙◌, subst, arith, Option, None, Result, Ok}
 use Rattle.std.specs.Prelude.{slice_get, IfOk, IfErr}
-use Rattle.std.specs.List.{filter_map, cons_option}
-use Rattle.std.specs.Option.{option_and_then}
+use Rattle.std.specs.List.{filter_map}
 use Rattle.std.proofs.lemmas.List.{take_more}
 use Rattle.std.proofs.lemmas.List.Elements.{filter_map-append}
 use Rattle.alg_registry.specs.declared.spec.Spec.{Spec}
@@ -11,14 +10,12 @@ use Rattle.alg_registry.specs.declared.entry.RegErr.TheVariants.{Memory}
 use Rattle.alg_registry.specs.declared.entry.RegEntry.{RegEntry}
 use Rattle.alg_registry.specs.Rows.{registered}
 use Rattle.alg_registry.specs.Made.{with_spec}
-use Rattle.shared_registry.proofs.Histories.{registered_grow}
+use Rattle.alg_registry.proofs.Existing.{registered_grow}
 use Rattle.turn_lock.specs.Turns.{Known}
-use Rattle.shared_registry.specs.Passes.{IsSound}
 use Rattle.shared_registry.proofs.Going.{Meets, Goes}
-use Rattle.turn_lock.specs.Meeting.{Leaves}
+use Rattle.turn_lock.specs.PassLaws.{Leaves}
 use Rattle.shared_registry.specs.Within.{Idles}
 use Rattle.shared_registry.proofs.Asking.{Exist, specs_more}
-use Rattle.shared_registry.proofs.Going.{goes_nothing}
 
 abbrev pub HasOrigin : Known RegEntry → Known RegEntry → ℕ → Result (Option Spec) RegErr → Type 0
 HasOrigin k l id r = Meets k (λ h. IfOk r (λ origin. origin ≡ slice_get (registered h) id) × IfErr r (λ e. e ≡ Memory) × Leaves k h l)
@@ -29,21 +26,10 @@ some_there (x ∷ xs) zero lt e = absurd cc
 some_there (x ∷ xs) (suc n) lt e = some_there xs n (omega (arith, lt)) e
 
 module _ (k l : Known RegEntry) (id : ℕ) (r : Result (Option Spec) RegErr) (did : HasOrigin k l id r) where
-  seen_is : l.seen ≡ did.0
-  seen_is = ap (λ n. n.seen) did.2.2
-
-  pub origin_idles : IsSound l → Idles k l
-  origin_idles sound = record { goes = goes_nothing k l did.0 did.1 did.2.2; sound = sound }
-
   pub origin_there : id < length (registered k.seen) → r ≡ Ok None → ⊥
   origin_there lt is =
       let none : None ≡ slice_get (registered did.0) id = subst (λ x. IfOk x (λ origin. origin ≡ slice_get (registered did.0) id)) is did.2.0 in
       some_there (registered did.0) id (omega (arith, lt, registered_grow k.seen did.1.others, ap (λ x. length (registered x)) did.1.goes_on)) none
-
-  pub origin_adds : (spec : Spec) (old new : List (ℕ × Spec)) → r ≡ Ok (Some spec) → new ≡ old ++ (id, spec) ∷ [] → new ≡ old ++ filter_map (with_spec (registered l.seen)) (id ∷ [])
-  origin_adds spec old new is grown =
-      let found : Some spec ≡ slice_get (registered did.0) id = subst (λ x. IfOk x (λ origin. origin ≡ slice_get (registered did.0) id)) is did.2.0 in
-      grown ∙ ap (λ (o : Option Spec). old ++ cons_option (option_and_then (λ s. Some (id, s)) o) []) (found ∙ ap (λ x. slice_get (registered x) id) (sym seen_is))
 
 pub exist_on : (k l : Known RegEntry) (a : List RegEntry) (ids : List ℕ) → Goes k l a → Exist k.seen ids → Exist l.seen ids
 exist_on k l a [] g exist = tt

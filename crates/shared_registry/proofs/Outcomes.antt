@@ -17,19 +17,23 @@ use Rattle.alg_registry.specs.Rows.{caller_of, texts, registered, larvals_of, la
 use Rattle.alg_registry.specs.Calls.{text_at}
 use Rattle.alg_registry.specs.Legal.{LegalReg, IsRight, ended_as}
 use Rattle.alg_registry.specs.Made.{Made, MadeAfter, IsMade, outcome, outcome_of}
+use Rattle.alg_registry.proofs.Histories.{text_more}
+use Rattle.alg_registry.proofs.Existing.{registered_grow}
+use Rattle.alg_registry.proofs.LifetimeLaws.{right_at}
+use Rattle.alg_registry.proofs.Fresh.{length-larvals_of}
+use Rattle.alg_registry.proofs.Stack.{larval_get}
 use Rattle.alg_names.specs.Name.{Tree, depth, width}
 use Rattle.alg_names.specs.Spelled.{tree_of}
 use Rattle.templates.specs.Nesting.{is_nested_well}
 use Rattle.templates.specs.Table.{table, is_allowed}
-use Rattle.templates.specs.Looking.{Entry, found_in, entry_found, found_as}
+use Rattle.templates.specs.LookResults.{Entry, found_in, entry_found, found_as}
 use Rattle.templates.specs.declared.build_errors.BuildErr.{BuildErr}
 use Rattle.templates.specs.declared.build_errors.BuildErr.TheVariants as build
 use Rattle.turn_lock.specs.Turns.{Known, Has, of}
 use Rattle.shared_registry.specs.Passes.{IsSound}
 use Rattle.shared_registry.proofs.Going.{Goes}
-use Rattle.shared_registry.specs.Building.{Works, Looks, Comes, Resolves, Ends, Resolved, Settled, IsLook, WasAnswered, HasText, BuiltOne}
+use Rattle.shared_registry.specs.Builds.{Works, Looks, Comes, Resolves, Ends, Resolved, Settled, IsLook, WasAnswered, HasText, BuiltOne}
 use Rattle.shared_registry.specs.Within.{Closes, BeginsText, HasCome}
-use Rattle.shared_registry.proofs.Histories.{right_at, text_more, registered_grow, larval_get, length-larvals_of}
 use Rattle.shared_registry.proofs.Asking.{FoundExists, found_there, outcome_there}
 use Rattle.shared_registry.proofs.Answering.{answered_text}
 use Rattle.shared_registry.proofs.Claiming.{HasClaimed, claimed_some, begins, closed, took_oldest}

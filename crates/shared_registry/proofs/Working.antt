@@ -1,30 +1,28 @@
 -- How a builder goes on.
-use Rattle.std.proofs.Common.{◌≡◌, ℕ, ◌⊎◌, inl, inr, Bool, true, false, not, ◌||◌, ◌&&◌, eqb, eq-eqb, ne_eqb, if◌then◌else◌, List, [], ◌∷◌, ◌++◌, refl, ap, sym, ◌∙◌, subst, Option, Some, None, Result, IsSome}
+use Rattle.std.proofs.Common.{◌≡◌, ℕ, ◌⊎◌, inl, inr, Bool, true, false, not, ◌||◌, eqb, eq-eqb, ne_eqb, if◌then◌else◌, List, [], ◌∷◌, ◌++◌, refl, ap, sym, ◌∙◌, subst, Option, Some, None, Result, IsSome}
 use Rattle.std.specs.Prelude.{filter}
 use Rattle.std.specs.List.{fold, list_any, list_all, cons_option}
 use Rattle.std.specs.Option.{option_or, option_and_then}
 use Rattle.std.proofs.lemmas.List.{append-nil}
 use Rattle.std.proofs.lemmas.List.Folds.{list_all-append}
+use Rattle.std.proofs.lemmas.Bool.{and_from}
 use Rattle.alg_registry.specs.declared.entry.Looked.{Looked}
 use Rattle.alg_registry.specs.declared.entry.RegEntry.{RegEntry}
 use Rattle.alg_registry.specs.declared.entry.RegEntry.TheVariants.{Enlist, Look, Claim, End, Waited, Unlist, Get, Put, Refs}
 use Rattle.alg_registry.specs.declared.entry.RegEntry.TheVariants as entry
 use Rattle.alg_registry.specs.Rows.{first_of, claims}
 use Rattle.alg_registry.specs.Made.{building, building_after, last_of, looks_for, look_for, if_of}
-use Rattle.shared_registry.proofs.Histories.{building-push, looks-push}
+use Rattle.alg_registry.proofs.Stack.{building-push, looks-push}
 use Rattle.turn_lock.specs.Turns.{Known}
 use Rattle.shared_registry.specs.Passes.{IsSound}
 use Rattle.shared_registry.proofs.Going.{Goes, goes_on, goes_still}
 use Rattle.shared_registry.specs.Own.{open_of, own_looks, IsOwn}
 use Rattle.templates.specs.declared.build_errors.BuildErr.{BuildErr}
-use Rattle.shared_registry.specs.Building.{is_building, Works, Looks, Comes, Resolves}
+use Rattle.shared_registry.specs.Builds.{is_building, Works, Looks, Comes, Resolves}
 use Rattle.shared_registry.specs.Within.{Within}
 
-pub both : (a b : Bool) → a ≡ true → b ≡ true → (a && b) ≡ true
-both a b p q = cc
-
 pub all_both : (xs ys : List RegEntry) → list_all is_building xs ≡ true → list_all is_building ys ≡ true → list_all is_building (xs ++ ys) ≡ true
-all_both xs ys a b = list_all-append is_building xs ys ∙ both (list_all is_building xs) (list_all is_building ys) a b
+all_both xs ys a b = list_all-append is_building xs ys ∙ and_from (list_all is_building xs) (list_all is_building ys) a b
 
 some_or : {B : Type 0} (o p : Option B) → IsSome o → IsSome (option_or o p)
 some_or None p s = absurd cc

@@ -1,8 +1,10 @@
 pub mod Faithful
 pub mod Passes
 pub mod Own
-pub mod Building
+pub mod Builds
 pub mod Within
 pub mod Laws
 pub mod Learned
 pub mod Trial
+pub mod Records
+pub mod Ready

@@ -13,7 +13,8 @@ ghost use Rattle.turn_lock.specs.Passes.{knows};
 ghost use Rattle.shared_registry.specs.Passes.{IsSound, IsPassOn};
 ghost use Rattle.shared_registry.specs.Learned.{IsLearned, RegistryLaws};
 ghost use Rattle.shared_registry.specs.Own.{IsOpen, MayLook};
-ghost use Rattle.shared_registry.specs.Building.{Works, Looks, Comes, Resolves, Ends, Resolved, Settled, WasAnswered, HasText, BuiltOne};
+ghost use Rattle.shared_registry.specs.Builds.{Works, Looks, Comes, Resolves, Ends, Resolved, Settled, WasAnswered, HasText, BuiltOne};
+ghost use Rattle.shared_registry.specs.Ready.{IsSoundOn, CanBuild};
 ghost use Rattle.shared_registry.specs.Within.{MayResolve, Idles, Within, Begins, ChildrenCome, Builds, EndsAs, ended_result, given_result, HasCome, Closes, BeginsText};
 
 use crate::laws::registry_laws;
@@ -83,7 +84,8 @@ pub(crate) fn look_for<R: Wait>(
     requires nested { is_nested_well name.now ≡ true }
     ensures lock { IsPassOn registry.now result.0 }
     ensures sound { IsSound (knows pass) → IsSound (knows result.0) }
-    ensures ok { IfOk result.1 (λ looked. Looks (knows pass) (knows result.0) (spelling name.now) plain looked × HasText (knows result.0).seen (spelling name.now) looked) }
+    ensures ok { IfOk result.1 (λ looked. Looks (knows pass) (knows result.0) (spelling name.now) plain looked
+        × HasText (knows result.0).seen (spelling name.now) looked) }
     ensures err { IfErr result.1 (λ e. (e ≡ BuildErr.Memory) × Works (knows pass) (knows result.0)) }
     ensures known { IsLearned name.now }
 {
@@ -107,12 +109,10 @@ fn wait_for<R: Wait>(
     pass: RegPass,
     larval: u64,
 ) -> (RegPass, Result<u64, BuildErr>)
-    requires lock { IsPassOn registry.now pass }
-    requires sound { IsSound (knows pass) }
+    requires ready { IsSoundOn registry.now pass }
     requires began { larval < length (texts (knows pass).seen) }
     requires laws { RegistryLaws }
-    ensures lock { IsPassOn registry.now result.0 }
-    ensures sound { IsSound (knows result.0) }
+    ensures ready { IsSoundOn registry.now result.0 }
     ensures works { Works (knows pass) (knows result.0) }
     ensures ends { Ends (knows result.0) larval result.1 }
 {
@@ -168,8 +168,7 @@ fn origins<R: Wait>(
     pass: RegPass,
     ids: &[u64],
 ) -> (RegPass, Result<Vec<(u64, Spec)>, BuildErr>)
-    requires lock { IsPassOn registry.now pass }
-    requires sound { IsSound (knows pass) }
+    requires ready { IsSoundOn registry.now pass }
     requires exist { AllByRecursion (λ id. id < length (registered (knows pass).seen)) ids.now }
     ensures lock { IsPassOn registry.now result.0 }
     ensures idles { Idles (knows pass) (knows result.0) }
@@ -197,12 +196,10 @@ fn finish<R: Wait>(
     larval: u64,
     built: Result<Spec, BuildErr>,
 ) -> (RegPass, Result<u64, BuildErr>)
-    requires lock { IsPassOn registry.now pass }
-    requires sound { IsSound (knows pass) }
+    requires ready { IsSoundOn registry.now pass }
     requires open { IsOpen (knows pass) larval }
     requires builds { Builds (knows pass) larval built }
-    ensures lock { IsPassOn registry.now result.0 }
-    ensures sound { IsSound (knows result.0) }
+    ensures ready { IsSoundOn registry.now result.0 }
     ensures ended { EndsAs (knows pass) (knows result.0) larval result.1 }
 {
     let (pass, ended) = registry.end(rt, pass, larval, given_of(built));
@@ -220,13 +217,10 @@ fn resolve_children<R: Wait>(
     larval: u64,
     asked: &[Name],
 ) -> (RegPass, Result<Vec<u64>, BuildErr>)
-    requires lock { IsPassOn registry.now pass }
-    requires known { IsLearned name.now }
+    requires ready { CanBuild registry.now pass name.now }
     requires begins { Begins larval name.now (knows pass) }
     requires asked { children_of name.now ≡ Ok asked.now }
-    requires nested { is_nested_well name.now ≡ true }
-    ensures lock { IsPassOn registry.now result.0 }
-    ensures sound { IsSound (knows result.0) }
+    ensures ready { IsSoundOn registry.now result.0 }
     ensures within { Within larval (knows pass) (knows result.0) }
     ensures ok { IfOk result.1 (λ ids. ChildrenCome (knows result.0) larval (length asked.now) (Ok ids.items)) }
     ensures err { IfErr result.1 (λ e. ChildrenCome (knows result.0) larval (length asked.now) (Err e)) }
@@ -259,12 +253,9 @@ pub(crate) fn build<R: Wait>(
     name: &Name,
     larval: u64,
 ) -> (RegPass, Result<Spec, BuildErr>)
-    requires lock { IsPassOn registry.now pass }
-    requires known { IsLearned name.now }
+    requires ready { CanBuild registry.now pass name.now }
     requires begins { Begins larval name.now (knows pass) }
-    requires nested { is_nested_well name.now ≡ true }
-    ensures lock { IsPassOn registry.now result.0 }
-    ensures sound { IsSound (knows result.0) }
+    ensures ready { IsSoundOn registry.now result.0 }
     ensures within { Within larval (knows pass) (knows result.0) }
     ensures builds { Builds (knows result.0) larval result.1 }
 {
@@ -294,12 +285,9 @@ fn build_claimed<R: Wait>(
     name: &Name,
     larval: u64,
 ) -> (RegPass, Result<u64, BuildErr>)
-    requires lock { IsPassOn registry.now pass }
-    requires known { IsLearned name.now }
+    requires ready { CanBuild registry.now pass name.now }
     requires begins { Begins larval name.now (knows pass) }
-    requires nested { is_nested_well name.now ≡ true }
-    ensures lock { IsPassOn registry.now result.0 }
-    ensures sound { IsSound (knows result.0) }
+    ensures ready { IsSoundOn registry.now result.0 }
     ensures closes { Closes larval (knows pass) (knows result.0) }
     ensures ends { Ends (knows result.0) larval result.1 }
 {
@@ -317,13 +305,10 @@ fn settle_larval<R: Wait>(
     name: &Name,
     larval: u64,
 ) -> (RegPass, Result<u64, BuildErr>)
-    requires lock { IsPassOn registry.now pass }
-    requires known { IsLearned name.now }
+    requires ready { CanBuild registry.now pass name.now }
     requires sound { IsSound (knows pass) }
     requires begun { slice_get (texts (knows pass).seen) larval ≡ Some (spelling name.now) }
-    requires nested { is_nested_well name.now ≡ true }
-    ensures lock { IsPassOn registry.now result.0 }
-    ensures sound { IsSound (knows result.0) }
+    ensures ready { IsSoundOn registry.now result.0 }
     ensures works { Works (knows pass) (knows result.0) }
     ensures ends { Ends (knows result.0) larval result.1 }
 {
@@ -349,13 +334,10 @@ fn settle_within<R: Wait>(
     name: &Name,
     looked: Looked,
 ) -> (RegPass, Result<u64, BuildErr>)
-    requires lock { IsPassOn registry.now pass }
-    requires known { IsLearned name.now }
+    requires ready { CanBuild registry.now pass name.now }
     requires sound { IsSound (knows pass) }
     requires text { HasText (knows pass).seen (spelling name.now) looked }
-    requires nested { is_nested_well name.now ≡ true }
-    ensures lock { IsPassOn registry.now result.0 }
-    ensures sound { IsSound (knows result.0) }
+    ensures ready { IsSoundOn registry.now result.0 }
     ensures works { Works (knows pass) (knows result.0) }
     ensures comes { Comes (knows result.0) looked result.1 }
 {
@@ -392,12 +374,12 @@ fn resolve_within<R: Wait>(
     }
 }
 
-/// Looks for the name, and builds it where a larval of it is pending that nobody has claimed, children first from left to
-/// right; where another caller builds it, waits for its end.
+/// Looks for the name, and builds it where a larval of it is pending that nobody has claimed, children first from left
+/// to right; where another caller builds it, waits for its end.
 ///
-/// `nesting` takes the name. Without `plain` the caller is no worker; with it the name is the next child of what the caller claimed
-/// last. `Fault` is what the look comes to where it comes to no entry. However it ends, no larval that this call claimed is
-/// left unended.
+/// `nesting` takes the name. Without `plain` the caller is no worker; with it the name is the next child of what the
+/// caller claimed last. `Fault` is what the look comes to where it comes to no entry. However it ends, no larval that
+/// this call claimed is left unended.
 pub fn resolve<R: Wait>(
     rt: &R,
     alloc: Global,
@@ -417,7 +399,8 @@ pub fn resolve<R: Wait>(
     resolve_within(rt, alloc, registry, pass, name, plain)
 }
 
-/// What `resolve` does after its look, with its errors, for a look of the name that this pass made. `nesting` takes the name.
+/// What `resolve` does after its look, with its errors, for a look of the name that this pass made. `nesting` takes the
+/// name.
 pub fn settle<R: Wait>(
     rt: &R,
     alloc: Global,
@@ -450,8 +433,7 @@ fn build_text<R: Wait>(
 ) -> (RegPass, Result<u64, BuildErr>)
     requires lock { IsPassOn registry.now pass }
     requires begins { BeginsText larval text.now (knows pass) }
-    ensures lock { IsPassOn registry.now result.0 }
-    ensures sound { IsSound (knows result.0) }
+    ensures ready { IsSoundOn registry.now result.0 }
     ensures closes { Closes larval (knows pass) (knows result.0) }
     ensures ends { Ends (knows result.0) larval result.1 }
 {

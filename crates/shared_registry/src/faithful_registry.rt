@@ -16,8 +16,8 @@ use std::alloc::{AllocError, Global};
 use std::marker::Model;
 use turn_lock::Told;
 
-/// The registry behind the lock. Contracts see it as its history, which is legal, and in which every instance was built by
-/// its template.
+/// The registry behind the lock. Contracts see it as its history, which is legal, and in which every instance was built
+/// by its template.
 #[derive(Drop)]
 pub struct FaithfulRegistry {
     registry: Registry,
@@ -68,7 +68,8 @@ impl FaithfulRegistry {
         requires plain { spec.wrap ≡ Wrap.Plain }
         requires driver { IsTrue (table.is_driver spec) }
         ensures answer { UnlessMemory result (result ≡ enlist_result (enlist_answer (rows_of self.old) spec)) }
-        ensures history { UnlessMemory result (self.new ≡ self.old ++ RegEntry.Enlist caller spec (enlist_answer (rows_of self.old) spec) ∷ []) }
+        ensures history { UnlessMemory result
+            (self.new ≡ self.old ++ RegEntry.Enlist caller spec (enlist_answer (rows_of self.old) spec) ∷ []) }
         ensures memory { OnMemory result (self.new ≡ self.old) }
         ensures faithful { IsFaithful self.new }
     {
@@ -110,7 +111,8 @@ impl FaithfulRegistry {
         requires made { IsMade table self.old (RegEntry.End caller larval (end_given (rows_of self.old) built)) }
         ensures answer { UnlessNoMemory result (result ≡ end_of (end_given (rows_of self.old) built)) }
         ensures memory { OnNoMemory result (MayLack (end_given (rows_of self.old) built)) }
-        ensures history { self.new ≡ self.old ++ RegEntry.End caller larval (unless_memory result (end_given (rows_of self.old) built)) ∷ [] }
+        ensures history { self.new
+            ≡ self.old ++ RegEntry.End caller larval (unless_memory result (end_given (rows_of self.old) built)) ∷ [] }
         ensures faithful { IsFaithful self.new }
     {
         self.registry.end(caller, larval, built)
@@ -130,7 +132,8 @@ impl FaithfulRegistry {
     pub(crate) fn unlist(&mut self, caller: u32, driver: &[u8]) -> Result<(), RegErr>
         requires { IsFalse (is_worker caller) }
         ensures answer { UnlessMemory result (result ≡ unlist_result (driver_place (rows_of self.old) driver.now)) }
-        ensures history { UnlessMemory result (self.new ≡ self.old ++ RegEntry.Unlist caller driver.now (driver_place (rows_of self.old) driver.now) ∷ []) }
+        ensures history { UnlessMemory result
+            (self.new ≡ self.old ++ RegEntry.Unlist caller driver.now (driver_place (rows_of self.old) driver.now) ∷ []) }
         ensures memory { OnMemory result (self.new ≡ self.old) }
         ensures faithful { IsFaithful self.new }
     {

@@ -6,15 +6,16 @@ ghost use Rattle.alg_registry.specs.declared.entry.RegEntry.{RegEntry};
 ghost use Rattle.alg_registry.specs.Rows.{rows_of, larvals_of, registered, is_listed, end_of, caller_of, texts};
 ghost use Rattle.alg_registry.specs.Answers.{look_answer, enlist_answer, driver_place};
 ghost use Rattle.alg_registry.specs.Legal.{is_worker, HasReference, ended_as};
-ghost use Rattle.alg_registry.specs.Calls.{UnlessMemory, OnMemory, UnlessNoMemory, OnNoMemory, MayLack, enlist_result, end_given, unless_memory, unlist_result, get_result, claimed_number, claimed_answer, listing, refs_answer, refs_result};
+ghost use Rattle.alg_registry.specs.Calls.{UnlessNoMemory, OnNoMemory, MayLack, enlist_result, end_given, unless_memory, unlist_result, get_result, claimed_number, claimed_answer, listing, refs_answer, refs_result};
 ghost use Rattle.templates.specs.Table.{table};
 ghost use Rattle.turn_lock.specs.Passes.{knows, turn_knows, turn_value, turn_lock};
-ghost use Rattle.turn_lock.specs.Meeting.{AtTurn, Enters, Leaves};
+ghost use Rattle.turn_lock.specs.PassLaws.{Leaves};
 ghost use Rattle.turn_lock.specs.Turns.{fresh_pass, sees, Shows, StartsWith, gives_number, gets_number, joined};
 ghost use Rattle.shared_registry.specs.Faithful.{IsFaithful};
 ghost use Rattle.shared_registry.specs.Passes.{IsSound, EntersIf, recorded, given};
 ghost use Rattle.shared_registry.specs.Learned.{RegistryLaws};
 ghost use Rattle.shared_registry.specs.Own.{IsOpen, MayHand, MayLook};
+ghost use Rattle.shared_registry.specs.Records.{AtRegistry, Adds, RecordsUnlessMemory, AnswersUnlessMemory};
 
 use crate::faithful_registry::FaithfulRegistry;
 use crate::laws::registry_laws;
@@ -31,8 +32,8 @@ use turn_lock::{Pass, Turn, TurnLock};
 /// workers.
 pub type RegPass = Pass<RegEntry>;
 
-/// The registry of many callers. Each call takes one turn at the lock; its answer is the registry's for the history that
-/// the turn meets, which is what the pass has seen and then entries of others. `Memory` records nothing.
+/// The registry of many callers. Each call takes one turn at the lock; its answer is the registry's for the history
+/// that the turn meets, which is what the pass has seen and then entries of others. `Memory` records nothing.
 #[derive(Drop)]
 pub struct SharedRegistry {
     lock: TurnLock<FaithfulRegistry>,
@@ -82,8 +83,8 @@ impl SharedRegistry {
         self.wakeups.prepare_wait_for_end()
     }
 
-    /// From now on a look that begins a larval wakes a worker by these wake-ups, which wake those that sleep on a board and build
-    /// for this registry. The first that is given stays.
+    /// From now on a look that begins a larval wakes a worker by these wake-ups, which wake those that sleep on a board
+    /// and build for this registry. The first that is given stays.
     pub fn note_workers(&self, workers: WorkerWakeup) {
         self.wakeups.note_workers(workers);
     }
@@ -125,7 +126,8 @@ impl SharedRegistry {
         requires plain { spec.wrap ≡ Wrap.Plain }
         requires driver { IsTrue (table.is_driver spec) }
         ensures lock { IsPassOn self.now result.0 }
-        ensures turn { AtTurn caller_of IsFaithful (knows pass) (λ h. UnlessMemory result.1 ((result.1 ≡ enlist_result (enlist_answer (rows_of h) spec)) × Enters IsFaithful (knows pass) h (RegEntry.Enlist (knows pass).number spec (enlist_answer (rows_of h) spec)) (knows result.0)) × OnMemory result.1 (Leaves (knows pass) h (knows result.0))) }
+        ensures turn { RecordsUnlessMemory (knows pass) result.1 (λ h. enlist_result (enlist_answer (rows_of h) spec))
+            (λ h. RegEntry.Enlist (knows pass).number spec (enlist_answer (rows_of h) spec)) (knows result.0) }
         ensures sound { IsSound (knows result.0) }
     {
         let by = pass.number();
@@ -135,12 +137,12 @@ impl SharedRegistry {
         (turn.give(added), answer)
     }
 
-    /// Looks for the text of a name within the limits (127 bytes, 8 levels, 4 arguments at each template) that `nesting` takes: without
-    /// `plain`, which no worker may do, for any entry; with it, for an entry that isn't wrapped, where the text is the next child of
-    /// what the caller claimed last.
+    /// Looks for the text of a name within the limits (127 bytes, 8 levels, 4 arguments at each template) that
+    /// `nesting` takes: without `plain`, which no worker may do, for any entry; with it, for an entry that isn't
+    /// wrapped, where the text is the next child of what the caller claimed last.
     ///
-    /// A larval begins where nothing is found and the text has a parenthesis. That wakes a worker, where workers build for this
-    /// registry (`note_workers`). `Memory` is the only refusal.
+    /// A larval begins where nothing is found and the text has a parenthesis. That wakes a worker, where workers build
+    /// for this registry (`note_workers`). `Memory` is the only refusal.
     pub fn look<R: Wait>(
         &self,
         rt: &R,
@@ -151,7 +153,8 @@ impl SharedRegistry {
         requires lock { IsPassOn self.now pass }
         requires may { MayLook (knows pass) text.now plain }
         ensures lock { IsPassOn self.now result.0 }
-        ensures turn { AtTurn caller_of IsFaithful (knows pass) (λ h. IfOk result.1 (λ answer. (answer ≡ look_answer (rows_of h) (larvals_of h) text.now plain) × Enters IsFaithful (knows pass) h (RegEntry.Look (knows pass).number text.now plain answer) (knows result.0)) × IfErr result.1 (λ e. (e ≡ RegErr.Memory) × Leaves (knows pass) h (knows result.0))) }
+        ensures turn { AnswersUnlessMemory (knows pass) result.1 (λ h. look_answer (rows_of h) (larvals_of h) text.now plain)
+            (λ h answer. Adds (knows pass) h (RegEntry.Look (knows pass).number text.now plain answer) (knows result.0)) (knows result.0) }
         ensures sound { IsSound (knows result.0) }
     {
         let by = pass.number();
@@ -171,8 +174,8 @@ impl SharedRegistry {
 
     /// Claims the larval of this number, or the oldest one that nobody has claimed.
     ///
-    /// Answers `None`, and records nothing, where the named one isn't pending and unclaimed, or none is. `Memory` is the
-    /// only refusal.
+    /// Answers `None`, and records nothing, where the named one isn't pending and unclaimed, or none is. `Memory` is
+    /// the only refusal.
     pub fn claim<R: Wait>(
         &self,
         rt: &R,
@@ -181,7 +184,10 @@ impl SharedRegistry {
     ) -> (RegPass, Result<Option<Claimed>, RegErr>)
         requires lock { IsPassOn self.now pass }
         ensures lock { IsPassOn self.now result.0 }
-        ensures turn { AtTurn caller_of IsFaithful (knows pass) (λ h. IfOk result.1 (λ claimed. (claimed ≡ claimed_answer (larvals_of h) larval) × EntersIf (knows pass) h (option_map (λ number. RegEntry.Claim (knows pass).number number) (claimed_number (larvals_of h) larval)) (knows result.0)) × IfErr result.1 (λ e. (e ≡ RegErr.Memory) × Leaves (knows pass) h (knows result.0))) }
+        ensures turn { AnswersUnlessMemory (knows pass) result.1 (λ h. claimed_answer (larvals_of h) larval)
+            (λ h _. EntersIf (knows pass) h
+            (option_map (λ number. RegEntry.Claim (knows pass).number number) (claimed_number (larvals_of h) larval)) (knows result.0))
+            (knows result.0) }
         ensures sound { IsSound (knows result.0) }
     {
         let by = pass.number();
@@ -197,9 +203,9 @@ impl SharedRegistry {
 
     /// Ends a larval that the caller is building, with what the templates make of its looks, or with `NoMemory`.
     ///
-    /// Of an instance the answer is `Failed(EAGAIN)` where an entry below it is no longer listed; otherwise `Joined` where
-    /// an entry of its driver is listed; then `Failed(EEXIST)` and `Failed(ENFILE)` as in `enlist`; otherwise `Built`, or
-    /// `NoMemory` in its place. Each is recorded.
+    /// Of an instance the answer is `Failed(EAGAIN)` where an entry below it is no longer listed; otherwise `Joined`
+    /// where an entry of its driver is listed; then `Failed(EEXIST)` and `Failed(ENFILE)` as in `enlist`; otherwise
+    /// `Built`, or `NoMemory` in its place. Each is recorded.
     pub fn end<R: Wait>(
         &self,
         rt: &R,
@@ -211,7 +217,10 @@ impl SharedRegistry {
         requires open { IsOpen (knows pass) larval }
         requires handed { MayHand (knows pass) larval built }
         ensures lock { IsPassOn self.now result.0 }
-        ensures turn { AtTurn caller_of IsFaithful (knows pass) (λ h. UnlessNoMemory result.1 (result.1 ≡ end_of (end_given (rows_of h) built)) × OnNoMemory result.1 (MayLack (end_given (rows_of h) built)) × Enters IsFaithful (knows pass) h (RegEntry.End (knows pass).number larval (unless_memory result.1 (end_given (rows_of h) built))) (knows result.0)) }
+        ensures turn { AtRegistry (knows pass) (λ h. UnlessNoMemory result.1 (result.1 ≡ end_of (end_given (rows_of h) built))
+            × OnNoMemory result.1 (MayLack (end_given (rows_of h) built))
+            × Adds (knows pass) h (RegEntry.End (knows pass).number larval (unless_memory result.1 (end_given (rows_of h) built)))
+            (knows result.0)) }
         ensures sound { IsSound (knows result.0) }
     {
         let by = pass.number();
@@ -222,8 +231,8 @@ impl SharedRegistry {
         (pass, answer)
     }
 
-    /// How the larval ended, of which the pass has seen that it began. Answers `None`, and records nothing, while it is pending.
-    /// `Memory` is the only refusal.
+    /// How the larval ended, of which the pass has seen that it began. Answers `None`, and records nothing, while it is
+    /// pending. `Memory` is the only refusal.
     pub fn waited<R: Wait>(
         &self,
         rt: &R,
@@ -233,7 +242,9 @@ impl SharedRegistry {
         requires lock { IsPassOn self.now pass }
         requires began { larval < length (texts (knows pass).seen) }
         ensures lock { IsPassOn self.now result.0 }
-        ensures turn { AtTurn caller_of IsFaithful (knows pass) (λ h. IfOk result.1 (λ ended. (ended ≡ ended_as h larval) × EntersIf (knows pass) h (option_map (λ _. RegEntry.Waited (knows pass).number larval) (ended_as h larval)) (knows result.0)) × IfErr result.1 (λ e. (e ≡ RegErr.Memory) × Leaves (knows pass) h (knows result.0))) }
+        ensures turn { AnswersUnlessMemory (knows pass) result.1 (λ h. ended_as h larval)
+            (λ h _. EntersIf (knows pass) h
+            (option_map (λ _. RegEntry.Waited (knows pass).number larval) (ended_as h larval)) (knows result.0)) (knows result.0) }
         ensures sound { IsSound (knows result.0) }
     {
         let by = pass.number();
@@ -243,8 +254,8 @@ impl SharedRegistry {
         (turn.give(added), answer)
     }
 
-    /// Takes the entry of the driver off the list, and with it what stands on it. `NoEnt` comes where no listed entry has
-    /// the driver, and is recorded. No worker may call it.
+    /// Takes the entry of the driver off the list, and with it what stands on it. `NoEnt` comes where no listed entry
+    /// has the driver, and is recorded. No worker may call it.
     pub fn unlist<R: Wait>(
         &self,
         rt: &R,
@@ -254,7 +265,8 @@ impl SharedRegistry {
         requires lock { IsPassOn self.now pass }
         requires outsider { IsFalse (is_worker (knows pass).number) }
         ensures lock { IsPassOn self.now result.0 }
-        ensures turn { AtTurn caller_of IsFaithful (knows pass) (λ h. UnlessMemory result.1 ((result.1 ≡ unlist_result (driver_place (rows_of h) driver.now)) × Enters IsFaithful (knows pass) h (RegEntry.Unlist (knows pass).number driver.now (driver_place (rows_of h) driver.now)) (knows result.0)) × OnMemory result.1 (Leaves (knows pass) h (knows result.0))) }
+        ensures turn { RecordsUnlessMemory (knows pass) result.1 (λ h. unlist_result (driver_place (rows_of h) driver.now))
+            (λ h. RegEntry.Unlist (knows pass).number driver.now (driver_place (rows_of h) driver.now)) (knows result.0) }
         ensures sound { IsSound (knows result.0) }
     {
         let by = pass.number();
@@ -264,13 +276,14 @@ impl SharedRegistry {
         (turn.give(added), answer)
     }
 
-    /// Takes a reference to a listed entry. `Again` comes where the entry isn't listed, and is recorded. No worker may call
-    /// it.
+    /// Takes a reference to a listed entry. `Again` comes where the entry isn't listed, and is recorded. No worker may
+    /// call it.
     pub fn take_ref<R: Wait>(&self, rt: &R, pass: RegPass, id: u64) -> (RegPass, Result<(), RegErr>)
         requires lock { IsPassOn self.now pass }
         requires outsider { IsFalse (is_worker (knows pass).number) }
         ensures lock { IsPassOn self.now result.0 }
-        ensures turn { AtTurn caller_of IsFaithful (knows pass) (λ h. UnlessMemory result.1 ((result.1 ≡ get_result (is_listed h id)) × Enters IsFaithful (knows pass) h (RegEntry.Get (knows pass).number id (is_listed h id)) (knows result.0)) × OnMemory result.1 (Leaves (knows pass) h (knows result.0))) }
+        ensures turn { RecordsUnlessMemory (knows pass) result.1 (λ h. get_result (is_listed h id))
+            (λ h. RegEntry.Get (knows pass).number id (is_listed h id)) (knows result.0) }
         ensures sound { IsSound (knows result.0) }
     {
         let by = pass.number();
@@ -286,7 +299,7 @@ impl SharedRegistry {
         requires outsider { IsFalse (is_worker (knows pass).number) }
         requires has { HasReference (knows pass).made (knows pass).number id }
         ensures lock { IsPassOn self.now result }
-        ensures turn { AtTurn caller_of IsFaithful (knows pass) (λ h. Enters IsFaithful (knows pass) h (RegEntry.Put (knows pass).number id) (knows result)) }
+        ensures turn { AtRegistry (knows pass) (λ h. Adds (knows pass) h (RegEntry.Put (knows pass).number id) (knows result)) }
         ensures sound { IsSound (knows result) }
     {
         let by = pass.number();
@@ -295,8 +308,8 @@ impl SharedRegistry {
         turn.give(true)
     }
 
-    /// The references of the newest held entry of the driver. `NoEnt` comes where there is none, and is recorded. No worker
-    /// may call it.
+    /// The references of the newest held entry of the driver. `NoEnt` comes where there is none, and is recorded. No
+    /// worker may call it.
     pub fn refs<R: Wait>(
         &self,
         rt: &R,
@@ -306,7 +319,8 @@ impl SharedRegistry {
         requires lock { IsPassOn self.now pass }
         requires outsider { IsFalse (is_worker (knows pass).number) }
         ensures lock { IsPassOn self.now result.0 }
-        ensures turn { AtTurn caller_of IsFaithful (knows pass) (λ h. UnlessMemory result.1 ((result.1 ≡ refs_result (refs_answer (rows_of h) driver.now)) × Enters IsFaithful (knows pass) h (RegEntry.Refs (knows pass).number driver.now) (knows result.0)) × OnMemory result.1 (Leaves (knows pass) h (knows result.0))) }
+        ensures turn { RecordsUnlessMemory (knows pass) result.1 (λ h. refs_result (refs_answer (rows_of h) driver.now))
+            (λ _. RegEntry.Refs (knows pass).number driver.now) (knows result.0) }
         ensures sound { IsSound (knows result.0) }
     {
         let by = pass.number();
@@ -321,7 +335,8 @@ impl SharedRegistry {
         requires lock { IsPassOn self.now pass }
         requires outsider { IsFalse (is_worker (knows pass).number) }
         ensures lock { IsPassOn self.now result.0 }
-        ensures turn { AtTurn caller_of IsFaithful (knows pass) (λ h. IfOk result.1 (λ rows. (rows ≡ listing (rows_of h)) × Enters IsFaithful (knows pass) h (RegEntry.List (knows pass).number) (knows result.0)) × IfErr result.1 (λ e. (e ≡ RegErr.Memory) × Leaves (knows pass) h (knows result.0))) }
+        ensures turn { AnswersUnlessMemory (knows pass) result.1 (λ h. listing (rows_of h))
+            (λ h _. Adds (knows pass) h (RegEntry.List (knows pass).number) (knows result.0)) (knows result.0) }
         ensures sound { IsSound (knows result.0) }
     {
         let by = pass.number();
@@ -341,7 +356,8 @@ impl SharedRegistry {
     ) -> (RegPass, Result<Option<Spec>, RegErr>)
         requires lock { IsPassOn self.now pass }
         ensures lock { IsPassOn self.now result.0 }
-        ensures turn { AtTurn caller_of IsFaithful (knows pass) (λ h. IfOk result.1 (λ origin. origin ≡ slice_get (registered h) id) × IfErr result.1 (λ e. e ≡ RegErr.Memory) × Leaves (knows pass) h (knows result.0)) }
+        ensures turn { AtRegistry (knows pass) (λ h. IfOk result.1 (λ origin. origin ≡ slice_get (registered h) id)
+            × IfErr result.1 (λ e. e ≡ RegErr.Memory) × Leaves (knows pass) h (knows result.0)) }
         ensures sound { IsSound (knows result.0) }
     {
         let mut turn = self.turn(rt, pass);
@@ -349,8 +365,8 @@ impl SharedRegistry {
         (turn.give(false), answer)
     }
 
-    /// Two passes of one: the first keeps its number, and the second gets this one, which is at least the first's `next` and below
-    /// 2^32 - 1. No turn is taken.
+    /// Two passes of one: the first keeps its number, and the second gets this one, which is at least the first's
+    /// `next` and below 2^32 - 1. No turn is taken.
     pub fn split(&self, pass: RegPass, number: u32) -> (RegPass, RegPass)
         requires lock { IsPassOn self.now pass }
         requires number { ((knows pass).next ≤ number) × (number + 1 < 2 ^ 32) }

@@ -5,6 +5,7 @@ use Rattle.std.specs.List.{filter_map, cons_option, list_all}
 use Rattle.std.specs.Option.{option_and_then}
 use Rattle.std.proofs.lemmas.List.{append-nil}
 use Rattle.std.proofs.lemmas.List.Elements.{filter_map-append}
+use Rattle.std.proofs.lemmas.Bool.{and_from}
 use Rattle.kc_base.specs.declared.error_numbers.Errno.{Errno}
 use Rattle.alg_registry.specs.declared.spec.Spec.{Spec}
 use Rattle.alg_registry.specs.declared.entry.Ended.{Ended}
@@ -23,9 +24,9 @@ use Rattle.templates.specs.declared.build_errors.BuildErr.{BuildErr}
 use Rattle.templates.specs.declared.build_errors.BuildErr.TheVariants.{Fault, Memory}
 use Rattle.templates.specs.Nesting.{is_nested_well}
 use Rattle.templates.specs.Table.{table, children_of, derived_of, spellings, FaultIs}
-use Rattle.templates.specs.Resolving.{weight, weight_of, AreAbove, Grows, CameTo, Within, AllEnded, is_work, IsOpen, LooksCome, ChildFailed, Builds, Resolves}
+use Rattle.templates.specs.Resolution.{weight, weight_of, AreAbove, Grows, CameTo, Within, AllEnded, is_work, IsOpen, LooksCome, ChildFailed, Builds, Resolves}
 use Rattle.alg_registry.proofs.Stack.{same, unequal}
-use Rattle.templates.proofs.Growth.{grows_none, grows_on, within_none, within_on, split, both_true}
+use Rattle.templates.proofs.Growth.{grows_none, grows_on, within_none, within_on, split}
 use Rattle.templates.proofs.TableLaws.{table-children, table-derived, table-name}
 use Rattle.templates.proofs.Shapes.{lighter, nested_child}
 
@@ -111,7 +112,7 @@ child_within caller larval text r h h' last came = record {
   grows = came.grows;
   work = Look caller text true came.answer ∷ came.work;
   went = came.history;
-  all_work = both_true (eqb caller caller) (list_all (is_work caller) came.work) (same caller) came.all_work;
+  all_work = and_from (eqb caller caller) (list_all (is_work caller) came.work) (same caller) came.all_work;
   all_ended = came.all_ended;
   others = λ n lt ne.
       came.looks n lt

@@ -6,6 +6,7 @@ use Rattle.std.specs.Option.{option_or}
 use Rattle.std.proofs.lemmas.List.{append-nil}
 use Rattle.std.proofs.lemmas.List.Folds.{list_all-append}
 use Rattle.std.proofs.lemmas.List.Elements.{filter_map-append}
+use Rattle.std.proofs.lemmas.Bool.{and_from}
 use Rattle.kc_base.specs.declared.error_numbers.Errno.{Errno}
 use Rattle.alg_registry.specs.declared.entry.Ended.{Ended}
 use Rattle.alg_registry.specs.declared.entry.Looked.{Looked}
@@ -20,17 +21,14 @@ use Rattle.alg_registry.specs.Made.{Made, IsMade, building, looks_for, outcome, 
 use Rattle.alg_registry.proofs.Making.{Made-push}
 use Rattle.alg_registry.proofs.Steps.{or_none}
 use Rattle.templates.specs.Table.{table}
-use Rattle.templates.specs.Resolving.{Grows, CameTo, Within, AllEnded, is_by, is_work}
+use Rattle.templates.specs.Resolution.{Grows, CameTo, Within, AllEnded, is_by, is_work}
 use Rattle.alg_registry.proofs.Stack.{ended-stays, claimed-stays, claimed-there, length-texts, building-push, looks-push, ended-push, claimed-push, ended-new, claimed-new, stack_below, Below, filter-snoc, unequal, same}
 
 pub texts_grow : (caller : ℕ) (h h' : List RegEntry) → Grows caller h h' → length (texts h) ≤ length (texts h')
 texts_grow caller h h' g = omega (arith, ap (λ x. length (texts x)) g.history, ap length (filter_map-append begun_by h g.more), length-append (texts h) (texts g.more))
 
-pub both_true : (a b : Bool) → a ≡ true → b ≡ true → (a && b) ≡ true
-both_true a b p q = cc
-
 all_append : (p : RegEntry → Bool) (xs ys : List RegEntry) → list_all p xs ≡ true → list_all p ys ≡ true → list_all p (xs ++ ys) ≡ true
-all_append p xs ys a b = list_all-append p xs ys ∙ both_true (list_all p xs) (list_all p ys) a b
+all_append p xs ys a b = list_all-append p xs ys ∙ and_from (list_all p xs) (list_all p ys) a b
 
 pub grows_none : (caller : ℕ) (h : List RegEntry) → Made table h → Grows caller h h
 grows_none caller h made = record { more = []; history = sym (append-nil h); own = refl; made = made; stack = refl; ends_stay = λ n e q. q; own_kept = λ n q. (q, refl) }
@@ -113,7 +111,7 @@ came_now caller h text plain answer r made next none comes =
       grows = record {
         more = e ∷ [];
         history = refl;
-        own = both_true (eqb caller caller) true (same caller) refl;
+        own = and_from (eqb caller caller) true (same caller) refl;
         made = Made-push table h e made next;
         stack = building-push h e caller;
         ends_stay = λ n x q. ended-stays h e n x q;
@@ -148,9 +146,9 @@ grows_begun caller h h3 text plain k answer legal new g last =
     ap (λ x. x ++ e ∷ []) g.history
     ∙ (append_assoc h2 g.more (e ∷ []) ∙ (append_assoc h1 (c ∷ []) (g.more ++ e ∷ []) ∙ append_assoc h (l ∷ []) (c ∷ (g.more ++ e ∷ [])))) in
     let mine : list_all (is_by caller) (l ∷ c ∷ g.more ++ e ∷ []) ≡ true =
-    both_true (eqb caller caller) (list_all (is_by caller) (c ∷ g.more ++ e ∷ [])) (same caller)
-    (both_true (eqb caller caller) (list_all (is_by caller) (g.more ++ e ∷ [])) (same caller)
-    (all_append (is_by caller) g.more (e ∷ []) g.own (both_true (eqb caller caller) true (same caller) refl))) in
+    and_from (eqb caller caller) (list_all (is_by caller) (c ∷ g.more ++ e ∷ [])) (same caller)
+    (and_from (eqb caller caller) (list_all (is_by caller) (g.more ++ e ∷ [])) (same caller)
+    (all_append (is_by caller) g.more (e ∷ []) g.own (and_from (eqb caller caller) true (same caller) refl))) in
     let stack2 : building h2 caller ≡ building h caller ++ k ∷ [] =
     building-push h1 c caller ∙ (ap (λ b. if b then building h1 caller ++ k ∷ [] else building h1 caller) (same caller) ∙ ap (λ ns. ns ++ k ∷ []) (building-push h l caller)) in
     let stack4 : building h4 caller ≡ building h caller =
@@ -200,8 +198,8 @@ came_begun caller h h3 text plain k answer r legal made next new w last ends_as 
     ap (λ x. x ++ e ∷ []) w.went
     ∙ (append_assoc h2 w.work (e ∷ []) ∙ (append_assoc h1 (c ∷ []) (w.work ++ e ∷ []) ∙ append_assoc h (l ∷ []) (c ∷ (w.work ++ e ∷ [])))) in
     let work : list_all (is_work caller) (c ∷ w.work ++ e ∷ []) ≡ true =
-    both_true (eqb caller caller) (list_all (is_work caller) (w.work ++ e ∷ [])) (same caller)
-    (all_append (is_work caller) w.work (e ∷ []) w.all_work (both_true (eqb caller caller) true (same caller) refl)) in
+    and_from (eqb caller caller) (list_all (is_work caller) (w.work ++ e ∷ [])) (same caller)
+    (all_append (is_work caller) w.work (e ∷ []) w.all_work (and_from (eqb caller caller) true (same caller) refl)) in
     let claimed2 : claimer h2 k ≡ Some caller =
     claimed-push h1 c k (omega (arith, new, t1))
     ∙ (ap (λ o. option_or o (claims k c)) (claimed-new h l k legal (omega (arith, new)) (omega (arith, new, t1)) refl) ∙ ap (λ b. if b then Some caller else None) (same k)) in

@@ -6,6 +6,7 @@ use Rattle.std.specs.Option.{option_or, option_and_then, option_map, option_map_
 use Rattle.std.specs.Str.{bytes_eq}
 use Rattle.std.proofs.lemmas.List.{append-nil}
 use Rattle.std.proofs.lemmas.Slice.Eq.{bytes_eq-Decides}
+use Rattle.std.proofs.lemmas.Bool.{and_from}
 use Rattle.alg_registry.specs.declared.spec.Spec.{Spec}
 use Rattle.alg_registry.specs.declared.row.Row.{Row}
 use Rattle.alg_registry.specs.declared.row.Larval.{Larval}
@@ -28,9 +29,9 @@ use Rattle.templates.specs.Names.{IsKnown}
 use Rattle.templates.specs.declared.build_errors.BuildErr.{BuildErr}
 use Rattle.templates.specs.declared.build_errors.BuildErr.TheVariants.{Fault, Memory}
 use Rattle.templates.specs.Table.{table}
-use Rattle.templates.specs.Resolving.{weight, weight_of, AreAbove, Grows, Within, IsOpen, Builds, Resolves, given_of, result_of, EndsWith}
+use Rattle.templates.specs.Resolution.{weight, weight_of, AreAbove, Grows, Within, IsOpen, Builds, Resolves, given_of, result_of, EndsWith}
 use Rattle.alg_registry.proofs.Stack.{ended-stays, claimed-stays, claimed-there, texts-push, length-texts, building-push, looks-push, ended-push, claimed-push, ended-new, claimed-new, last-snoc, same, looks-fresh, larval_get, belongs_not, last_below, stack_below}
-use Rattle.templates.proofs.Growth.{grows_begun, came_begun, split, none_after, both_true}
+use Rattle.templates.proofs.Growth.{grows_begun, came_begun, split, none_after}
 use Rattle.templates.proofs.ChildLooks.{get_front, get_within}
 use Rattle.alg_registry.proofs.Making.{Made-push}
 use Rattle.templates.proofs.TableLaws.{weight_of-spelling}
@@ -217,7 +218,7 @@ grows_look caller k h text plain made next =
     record {
       more = l ∷ [];
       history = refl;
-      own = both_true (eqb caller caller) true (same caller) refl;
+      own = and_from (eqb caller caller) true (same caller) refl;
       made = Made-push table h l made next;
       stack = building-push h l caller;
       ends_stay = λ n x q. ended-stays h l n x q;

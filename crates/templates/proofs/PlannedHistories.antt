@@ -40,6 +40,7 @@ use Rattle.templates.specs.Table.{table, template_at, children_of, derived_of, s
 use Rattle.templates.proofs.Growth.{split}
 use Rattle.templates.proofs.ChildLooks.{get_within}
 use Rattle.alg_registry.proofs.Looks.{began_new}
+use Rattle.alg_registry.proofs.Histories.{get_more}
 use Rattle.templates.proofs.Looks.{position_at}
 use Rattle.templates.proofs.Shapes.{AsksOwn, AsksParts, AsksWithin, by_shape, child_bare}
 use Rattle.templates.proofs.PlainLooks.{found_bare, pending_text}
@@ -52,11 +53,6 @@ pub record Grammar : Type 0 where
   pub arguments : (text : List ℕ) (t : Tree) → IsName text t → All (λ a. IsName (spelling a) a) (args_of t)
 
 -- ---- lists
-
-get_append : {A : Type 0} (xs ys : List A) (n : ℕ) (x : A) → slice_get xs n ≡ Some x → slice_get (xs ++ ys) n ≡ Some x
-get_append [] ys n x e = absurd cc
-get_append (y ∷ xs) ys zero x e = e
-get_append (y ∷ xs) ys (suc n) x e = get_append xs ys n x e
 
 get_option : {A : Type 0} (o : Option A) (n : ℕ) (x : A) → slice_get (cons_option o []) n ≡ Some x → o ≡ Some x
 get_option None n x e = absurd cc
@@ -109,10 +105,10 @@ pub record IsFaithful (h : List RegEntry) : Type 0 where
   pub looks : (n : ℕ) → AllByRecursion (LooksPlain h) (looks_for n [] h)
 
 plain_stays : (h : List RegEntry) (e : RegEntry) (id : ℕ) → IsPlainAt h id → IsPlainAt (h ++ e ∷ []) id
-plain_stays h e id p = (p.0, ap (λ l. slice_get l id) (registered-push h e) ∙ get_append (registered h) (cons_option (registered_by e) []) id p.0 p.1, p.2)
+plain_stays h e id p = (p.0, ap (λ l. slice_get l id) (registered-push h e) ∙ get_more (registered h) (cons_option (registered_by e) []) id p.0 p.1, p.2)
 
 text_stays : (h : List RegEntry) (e : RegEntry) (n : ℕ) → HasPlainText h n → HasPlainText (h ++ e ∷ []) n
-text_stays h e n p = (p.0, ap (λ l. slice_get l n) (texts-push h e) ∙ get_append (texts h) (cons_option (begun_by e) []) n p.0 p.1, p.2)
+text_stays h e n p = (p.0, ap (λ l. slice_get l n) (texts-push h e) ∙ get_more (texts h) (cons_option (begun_by e) []) n p.0 p.1, p.2)
 
 look_stays : (h : List RegEntry) (e : RegEntry) (a : Looked) → LooksPlain h a → LooksPlain (h ++ e ∷ []) a
 look_stays h e (Found id) p = plain_stays h e id p
@@ -132,7 +128,7 @@ early_text h e n lt p = (p.0, at (get_either (texts h) (cons_option (begun_by e)
     at (inl q) = q
     at (inr q) =
         let r = get_there (texts h) n lt in
-        let s : slice_get (texts h ++ cons_option (begun_by e) []) n ≡ Some r.0 = get_append (texts h) (cons_option (begun_by e) []) n r.0 r.1 in
+        let s : slice_get (texts h ++ cons_option (begun_by e) []) n ≡ Some r.0 = get_more (texts h) (cons_option (begun_by e) []) n r.0 r.1 in
         let t : Some r.0 ≡ Some p.0 = sym s ∙ (sym (ap (λ l. slice_get l n) (texts-push h e)) ∙ p.1) in
         r.1 ∙ t
 

@@ -1,6 +1,7 @@
 -- What a name asks for is lighter than the name, and nested well.
 use Rattle.std.proofs.Common.{◌≡◌, ℕ, zero, suc, ◌+◌, ◌*◌, ◌<◌, ◌≤◌, ◌⊎◌, inl, inr, Bool, true, false, not, ◌||◌, ◌&&◌, if◌then◌else◌, List, [], ◌∷◌, length, get_or, refl, ap, sym, ◌∙◌, subst, arith, Option, Some, None, Ok, codes}
 use Rattle.std.specs.Str.{bytes_eq}
+use Rattle.std.proofs.lemmas.Bool.{and_from}
 use Rattle.alg_names.specs.Name.{Tree, Args, node, end, arg, word_of, args_of, list_of}
 use Rattle.alg_names.specs.Built.{nodes, args_from}
 use Rattle.alg_names.specs.Built.{nodes_at, args_from-list_of}
@@ -8,7 +9,7 @@ use Rattle.templates.specs.declared.template_words.Template.{Template}
 use Rattle.templates.specs.declared.template_words.Template.TheVariants.{Cbc, Ctr, Rfc3686, Xts, Gcm, GcmBase, Rfc4106, Ccm, Hmac, Cmac, Authenc, Pcrypt, Cryptd, CryptdPcrypt}
 use Rattle.templates.specs.Nesting.{has_wrapper, any_wrapper, inner_args, is_nested_well, is_wrapper_word}
 use Rattle.templates.specs.Table.{template_at, only_one, children_of, asked_by}
-use Rattle.templates.specs.Resolving.{weight}
+use Rattle.templates.specs.Resolution.{weight}
 use Rattle.templates.proofs.Words.{template_over, gcm_at, queued_at, is_queued}
 use Rattle.templates.proofs.Wrappers.{any_at}
 
@@ -146,9 +147,6 @@ last_false : (a b : Bool) → (a || b) ≡ false → b ≡ false
 last_false true b e = absurd cc
 last_false false b e = e
 
-both_true : (a b : Bool) → a ≡ true → b ≡ true → (a && b) ≡ true
-both_true a b p q = cc
-
 left_true : (a b : Bool) → (a && b) ≡ true → a ≡ true
 left_true true b e = refl
 left_true false b e = absurd cc
@@ -181,7 +179,7 @@ inner_own w (x ∷ y ∷ xs) other = refl
 
 -- which has those of the `pcrypt`
 inner_queued : (w : List ℕ) (x : Tree) → bytes_eq w (codes "cryptd") ≡ true → bytes_eq (word_of x) (codes "pcrypt") ≡ true → inner_args w (x ∷ []) ≡ args_of x
-inner_queued w x p q = ap (λ b. if b then args_of x else x ∷ []) (both_true (bytes_eq w (codes "cryptd")) (bytes_eq (word_of x) (codes "pcrypt")) p q)
+inner_queued w x p q = ap (λ b. if b then args_of x else x ∷ []) (and_from (bytes_eq w (codes "cryptd")) (bytes_eq (word_of x) (codes "pcrypt")) p q)
 
 pub none_nested : (u : Tree) → has_wrapper u ≡ false → is_nested_well u ≡ true
 none_nested (node w ts) e =

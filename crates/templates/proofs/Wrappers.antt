@@ -1,6 +1,7 @@
 -- `pcrypt` and `cryptd` in a list of names.
 use Rattle.std.proofs.Common.{◌≡◌, ℕ, zero, suc, ◌+◌, ◌<◌, ◌≤◌, Bool, true, false, ◌||◌, not, if◌then◌else◌, List, [], ◌∷◌, ◌++◌, length, get_or, take, refl, ap, sym, ◌∙◌, arith, Result, Ok, Err}
 use Rattle.std.proofs.lemmas.List.{take_all, take_more}
+use Rattle.std.proofs.lemmas.Bool.{or_from}
 use Rattle.alg_names.specs.Name.{Tree, node, word_of, args_of}
 use Rattle.alg_names.specs.Built.{args_from}
 use Rattle.alg_names.specs.Built.{args_from-list_of}
@@ -12,12 +13,9 @@ or_true : (a : Bool) → (a || true) ≡ true
 or_true true = refl
 or_true false = refl
 
-or_none : (a b : Bool) → a ≡ false → b ≡ false → (a || b) ≡ false
-or_none a b p q = cc
-
 any-snoc : (xs : List Tree) (x : Tree) → any_wrapper (args_from xs) ≡ false → has_wrapper x ≡ false → any_wrapper (args_from (xs ++ x ∷ [])) ≡ false
-any-snoc [] x h k = or_none (has_wrapper x) false k refl
-any-snoc (y ∷ ys) x h k = or_none (has_wrapper y) (any_wrapper (args_from (ys ++ x ∷ []))) (left (has_wrapper y) (any_wrapper (args_from ys)) h) (any-snoc ys x (right (has_wrapper y) (any_wrapper (args_from ys)) h) k)
+any-snoc [] x h k = or_from (has_wrapper x) false k refl
+any-snoc (y ∷ ys) x h k = or_from (has_wrapper y) (any_wrapper (args_from (ys ++ x ∷ []))) (left (has_wrapper y) (any_wrapper (args_from ys)) h) (any-snoc ys x (right (has_wrapper y) (any_wrapper (args_from ys)) h) k)
   where
     left : (a b : Bool) → (a || b) ≡ false → a ≡ false
     left true b h = h
@@ -52,7 +50,7 @@ found_below t xs i u e h k l = sym (wrapper_parts t xs e ∙ ap (λ b. is_wrappe
 
 pub none_found : (t : Tree) (xs : List Tree) (i : ℕ) (w : List ℕ) → xs ≡ args_of t → w ≡ word_of t → length xs ≤ i → false ≡ is_wrapper_word w → any_wrapper (args_from (take i xs)) ≡ false → false ≡ has_wrapper t
 none_found t xs i w e f h k l =
-    sym (wrapper_parts t xs e ∙ or_none (is_wrapper_word (word_of t)) (any_wrapper (args_from xs)) (ap is_wrapper_word (sym f) ∙ sym k) (ap (λ ys. any_wrapper (args_from ys)) (sym (take_all i xs h)) ∙ l))
+    sym (wrapper_parts t xs e ∙ or_from (is_wrapper_word (word_of t)) (any_wrapper (args_from xs)) (ap is_wrapper_word (sym f) ∙ sym k) (ap (λ ys. any_wrapper (args_from ys)) (sym (take_all i xs h)) ∙ l))
 
 abbrev verdict : Bool → Result (Unit {0}) Errno
 verdict b = if b then Ok tt else Err EINVAL

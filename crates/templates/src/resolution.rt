@@ -12,8 +12,8 @@ ghost use Rattle.alg_registry.specs.Made.{Made, IsMade, with_spec};
 ghost use Rattle.templates.specs.Names.{IsKnown};
 ghost use Rattle.templates.specs.Nesting.{is_nested_well};
 ghost use Rattle.templates.specs.Table.{table, children_of};
-ghost use Rattle.templates.specs.Resolving.{weight, AreAbove, Resolves, IsOpen, Within, LooksCome, ChildFailed, Builds, EndsWith, Grows, AllEnded};
-ghost use Rattle.templates.specs.Looking.{Resolved, UnlessMemory, NonePending};
+ghost use Rattle.templates.specs.Resolution.{weight, AreAbove, Resolves, IsOpen, Within, LooksCome, ChildFailed, Builds, EndsWith, Grows, AllEnded};
+ghost use Rattle.templates.specs.LookResults.{Resolved, UnlessMemory, NonePending};
 
 use crate::{BuildErr, children, derive};
 use alg_names::laws::computed_tree;
@@ -39,7 +39,8 @@ fn look_for(
     plain: bool,
 ) -> Result<Looked, BuildErr>
     requires { IsTrue (plain || not (is_worker caller)) }
-    ensures answer { IfOk result (λ answer. look_answer (rows_of registry.old) (larvals_of registry.old) (spelling name.now) plain ≡ answer) }
+    ensures answer { IfOk result
+        (λ answer. look_answer (rows_of registry.old) (larvals_of registry.old) (spelling name.now) plain ≡ answer) }
     ensures history { IfOk result (λ answer. registry.new ≡ registry.old ++ RegEntry.Look caller (spelling name.now) plain answer ∷ []) }
     ensures legal { OnOk result (LegalReg registry.old) }
     ensures memory { IfErr result (λ e. (e ≡ BuildErr.Memory) × (registry.new ≡ registry.old)) }
@@ -130,7 +131,8 @@ fn resolve_children(
     requires begun { IsOpen caller larval name.now registry.old }
     requires asked { children_of name.now ≡ Ok asked.now }
     requires nested { is_nested_well name.now ≡ true }
-    ensures ok { IfOk result (λ ids. LooksCome caller larval (Ok ids.items) registry.old registry.new × (length ids.items ≡ length asked.now)) }
+    ensures ok { IfOk result (λ ids. LooksCome caller larval (Ok ids.items) registry.old registry.new
+        × (length ids.items ≡ length asked.now)) }
     ensures err { IfErr result (λ e. ChildFailed caller larval registry.old registry.new e) }
 {
     let mut ids = Vec::new(alloc);

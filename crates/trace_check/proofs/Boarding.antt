@@ -1,9 +1,9 @@
 -- What the checker keeps of a board goes on with a right event.
-use Rattle.std.proofs.Common.{◌≡◌, ℕ, suc, ◌+◌, ◌-◌, ◌<◌, ◌≤◌, ◌^◌, Bool, true, false, cond, List, [], ◌∷◌, ◌++◌, length, take, Option, Some, None, refl, sym, ◌∙◌, ap, subst, arith, inl, inr, ◌⊎◌, get_or}
+use Rattle.std.proofs.Common.{◌≡◌, ℕ, ◌+◌, ◌-◌, ◌<◌, ◌≤◌, ◌^◌, Bool, true, false, cond, List, [], ◌∷◌, ◌++◌, length, take, Option, Some, None, refl, sym, ◌∙◌, ap, subst, arith, inl, inr, ◌⊎◌, get_or}
 use Rattle.std.specs.Prelude.{◌==◌, slice_get, slice_set, MatchOption}
-use Rattle.std.specs.List.{filter, filter_map}
+use Rattle.std.specs.List.{filter_map}
 use Rattle.std.proofs.lemmas.Bool.{cases_eq, eq-eqb, le-leb}
-use Rattle.std.proofs.lemmas.List.{length-set, length_push, take_more, take_all, length-take}
+use Rattle.std.proofs.lemmas.List.{length-set, length_push, take_more, length-take}
 use Rattle.std.proofs.lemmas.Option.{slice_get-get_or}
 use Rattle.board.specs.declared.entry.Shape.{Shape}
 use Rattle.board.specs.declared.entry.Entered.TheVariants.{InProgress, Busy, NoSpace}
@@ -11,15 +11,18 @@ use Rattle.board.specs.declared.entry.BoardEntry.{BoardEntry}
 use Rattle.board.specs.declared.entry.BoardEntry.TheVariants.{Born, Submit, Take, Finish, Enq, Deq, Done, Hold, Go, Collect, Close, Share, Mask, Shut}
 use Rattle.board.specs.Shapes.{is_serial, lists_of, IsShape}
 use Rattle.board.specs.Entries.{is_of, entries_of, birth_in, submissions, dequeues, takers, finished}
-use Rattle.board.specs.Legal.{is_shut_entry, IsRight, LegalBoard}
+use Rattle.board.specs.Legal.{is_shut_entry, IsRight}
+use Rattle.board.proofs.Transfer.{entries-more, entries-same}
+use Rattle.board.proofs.Lists.{filter_map-none, filter_map-some}
+use Rattle.board.proofs.Kept.{legal_more}
+use Rattle.board.proofs.Counting.{filter-at_most}
 use Rattle.trace_check.specs.declared.reason.Reason.{Reason}
 use Rattle.trace_check.specs.BoardReasons.{IsWrong, IsFirstWrong}
 use Rattle.trace_check.specs.Pipes.{PipeState, full_mask, new_pipe, pipe_of, judged, CanCount, AllCanCount, after, is_shut_by, after_at, pipes_after}
 use Rattle.trace_check.proofs.Places.{get-set_same, get-set_other, get-push_same, get-push_other, run_within}
-use Rattle.trace_check.proofs.Histories.{filter_map-none, filter_map-some, any-none, any_now, entries-more, entries-same, only_of, legal_more}
+use Rattle.trace_check.proofs.Histories.{any-none, any_now, only_of}
 use Rattle.trace_check.proofs.Standing.{IsPipe, takers_by, takers_are}
 use Rattle.trace_check.proofs.Deciding.{few_lists}
-use Rattle.std.proofs.lemmas.Bool.{cond_both}
 use Rattle.trace_check.proofs.Judging.{IsBoard, IsPlace, is_inner, no_state, dec_state, dec_number}
 use Rattle.trace_check.proofs.Parts.{right_has_all, judged_right, judged_wrong}
 use Rattle.trace_check.proofs.Stepping.{pipe_step}
@@ -163,11 +166,6 @@ board_step ps shut h (Mask caller pipe mask) r k = inner_step ps shut h _ (slice
 pub board_empty : {A : Type 0} → IsBoard {A = A} [] false []
 board_empty = record { legal = tt; count = refl; each = λ p. refl; shutting = refl }
 
--- The counts are within 64 bits.
-filter_at_most : {X : Type 0} (p : X → Bool) (xs : List X) → length (filter p xs) ≤ length xs
-filter_at_most p [] = omega arith
-filter_at_most p (x ∷ xs) = (let h = filter_at_most p xs in let P : List _ → Type 0 = λ ys. length ys ≤ suc (length xs) in cond_both (p x) (x ∷ filter p xs) (filter p xs) P (λ e. omega arith) (λ e. omega arith))
-
 -- an entry accepts a request, lets one out of a line, or finishes one, or none of these
 kinds_apart : {A : Type 0} (es : List (BoardEntry A)) → length (submissions es) + length (dequeues es) + length (finished es) ≤ length es
 kinds_apart [] = omega arith
@@ -190,7 +188,7 @@ kinds_apart (Shut caller ∷ es) = (let h = kinds_apart es in omega arith)
 
 count_at : {A : Type 0} (h : List (BoardEntry A)) (p : ℕ) (s : PipeState) → length h + 1 < 2 ^ 64 → IsPipe (entries_of p h) s → CanCount s
 count_at h p s short k =
-    let own = filter_at_most (is_of p) h in
+    let own = filter-at_most (is_of p) h in
     let apart = kinds_apart (entries_of p h) in
     let a = k.requests.count in
     let b = k.dequeuing in

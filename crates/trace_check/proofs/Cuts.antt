@@ -1,10 +1,9 @@
 -- Lines of a text.
-use Rattle.std.proofs.Common.{◌≡◌, ℕ, ◌+◌, ◌<◌, ◌≤◌, Bool, true, not, List, [], ◌∷◌, ◌++◌, length, take, get_or, refl, sym, ◌∙◌, ap, subst, arith, append_assoc}
+use Rattle.std.proofs.Common.{◌≡◌, ℕ, ◌≤◌, true, not, List, [], ◌∷◌, ◌++◌, length, refl, sym, ◌∙◌, subst, arith, append_assoc}
 use Rattle.std.specs.Prelude.{◌==◌}
 use Rattle.std.specs.List.{list_all, flat_map}
-use Rattle.std.proofs.lemmas.Bool.{and_parts, and_from, ne_eqb}
-use Rattle.std.proofs.lemmas.List.{take_more, take_all}
-use Rattle.trace_check.specs.Reading.{IsOneLine}
+use Rattle.std.proofs.lemmas.Bool.{and_parts}
+use Rattle.trace_check.specs.TraceReader.{IsOneLine}
 
 -- Lines, each with a line feed behind it.
 abbrev pub fed : List ℕ → List ℕ

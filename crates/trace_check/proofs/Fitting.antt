@@ -10,7 +10,7 @@ use Rattle.alg_registry.specs.declared.entry.Enlisted.TheVariants.{Exist, NFile}
 use Rattle.alg_registry.specs.declared.entry.EndAnswer.{EndAnswer}
 use Rattle.alg_registry.specs.declared.entry.EndAnswer.TheVariants.{NoMemory}
 use Rattle.alg_registry.specs.declared.entry.RegEntry.{RegEntry}
-use Rattle.alg_registry.specs.declared.entry.RegEntry.TheVariants.{Enlist, Look, Claim, End, Waited, Unlist, Get, Put, Refs}
+use Rattle.alg_registry.specs.declared.entry.RegEntry.TheVariants.{Enlist}
 use Rattle.alg_registry.specs.declared.entry.RegEntry.TheVariants as reg
 use Rattle.board.specs.declared.entry.Shape.TheVariants.{Pad, Queue}
 use Rattle.board.specs.declared.entry.Entered.TheVariants.{InProgress, Busy}
@@ -31,9 +31,6 @@ first_word word words h = (and_parts (is_word word) (list_all is_word words) h).
 
 more_words : (word : List ℕ) (words : List (List ℕ)) → AreWords (word ∷ words) → AreWords words
 more_words word words h = (and_parts (is_word word) (list_all is_word words) h).1
-
-both : (a b : Bool) → a ≡ true → b ≡ true → (a && b) ≡ true
-both a b h k = and_from a b h k
 
 -- a choice of two that pass
 either : {X : Type 0} (P : X → Type 0) (b : Bool) (x y : X) → P x → P y → P (cond b x y)
@@ -68,7 +65,7 @@ small_fits word = small_by (is_u32 (number_of word)) (number_of word) refl
 
 numbers_fit : (words : List (List ℕ)) → list_all is_u64 (map number_of words) ≡ true
 numbers_fit [] = refl
-numbers_fit (word ∷ words) = both (is_u64 (number_of word)) (list_all is_u64 (map number_of words)) (number_fits word) (numbers_fit words)
+numbers_fit (word ∷ words) = and_from (is_u64 (number_of word)) (list_all is_u64 (map number_of words)) (number_fits word) (numbers_fit words)
 
 ids_fit : (word : List ℕ) → list_all is_u64 (ids_of word) ≡ true
 ids_fit word = either (λ ids. list_all is_u64 ids ≡ true) (bytes_eq word (codes "-")) [] (map number_of (slice_split is_comma word)) refl (numbers_fit (slice_split is_comma word))
@@ -116,8 +113,8 @@ built_good (id ∷ name ∷ driver ∷ a ∷ b ∷ c ∷ []) h = (refl, refl)
 built_good (id ∷ name ∷ driver ∷ kind ∷ wrap ∷ priority ∷ below ∷ []) h =
     let rest = kind ∷ wrap ∷ priority ∷ below ∷ [] in
     let n = more_words id (name ∷ driver ∷ rest) h in (
-      both (is_word name) (is_word driver) (first_word name (driver ∷ rest) n) (first_word driver rest (more_words name (driver ∷ rest) n)),
-      both (is_u64 (number_of id)) _ (number_fits id) (both (is_u32 (small_of priority)) (list_all is_u64 (ids_of below)) (small_fits priority) (ids_fit below)),
+      and_from (is_word name) (is_word driver) (first_word name (driver ∷ rest) n) (first_word driver rest (more_words name (driver ∷ rest) n)),
+      and_from (is_u64 (number_of id)) _ (number_fits id) (and_from (is_u32 (small_of priority)) (list_all is_u64 (ids_of below)) (small_fits priority) (ids_fit below)),
     )
 built_good (id ∷ name ∷ driver ∷ a ∷ b ∷ c ∷ d ∷ e ∷ more) h = (refl, refl)
 
@@ -125,7 +122,7 @@ joined_good : (words : List (List ℕ)) → IsGoodEnd (joined_of words)
 unfolding IsGoodEnd
 joined_good [] = (refl, refl)
 joined_good (a ∷ []) = (refl, refl)
-joined_good (id ∷ below ∷ []) = (refl, both (is_u64 (number_of id)) (list_all is_u64 (ids_of below)) (number_fits id) (ids_fit below))
+joined_good (id ∷ below ∷ []) = (refl, and_from (is_u64 (number_of id)) (list_all is_u64 (ids_of below)) (number_fits id) (ids_fit below))
 joined_good (a ∷ b ∷ c ∷ more) = (refl, refl)
 
 failed_good : (words : List (List ℕ)) → IsGoodEnd (failed_of words)
@@ -155,16 +152,16 @@ enlist_good caller (a ∷ []) c h = tt
 enlist_good caller (a ∷ b ∷ []) c h = tt
 enlist_good caller (a ∷ b ∷ x ∷ []) c h = tt
 enlist_good caller (name ∷ driver ∷ kind ∷ priority ∷ answer) c h =
-    let w = both (is_word name) (is_word driver) (first_word name (driver ∷ kind ∷ priority ∷ answer) h) (first_word driver (kind ∷ priority ∷ answer) (more_words name (driver ∷ kind ∷ priority ∷ answer) h)) in
+    let w = and_from (is_word name) (is_word driver) (first_word name (driver ∷ kind ∷ priority ∷ answer) h) (first_word driver (kind ∷ priority ∷ answer) (more_words name (driver ∷ kind ∷ priority ∷ answer) h)) in
     let t : has_text (Enlist caller (plain_spec name driver (kind_of kind) (small_of priority)) (enlisted_of answer)) ≡ true = ap (λ b. b && true && true) w in
-    both (has_text (Enlist caller (plain_spec name driver (kind_of kind) (small_of priority)) (enlisted_of answer))) _ t
-    (both (is_u32 caller) _ c (both (is_u32 (small_of priority)) (enlisted_fits (enlisted_of answer)) (small_fits priority) (enlisted_fit answer)))
+    and_from (has_text (Enlist caller (plain_spec name driver (kind_of kind) (small_of priority)) (enlisted_of answer))) _ t
+    (and_from (is_u32 caller) _ c (and_from (is_u32 (small_of priority)) (enlisted_fits (enlisted_of answer)) (small_fits priority) (enlisted_fit answer)))
 
 look_good : (caller : ℕ) (words : List (List ℕ)) → is_u32 caller ≡ true → AreWords words → IsReg (look_of caller words)
 unfolding IsReg
 look_good caller [] c h = tt
 look_good caller (a ∷ []) c h = tt
-look_good caller (text ∷ sight ∷ answer) c h = both (is_word text) _ (first_word text (sight ∷ answer) h) (both (is_u32 caller) (looked_fits (looked_of answer)) c (looked_fit answer))
+look_good caller (text ∷ sight ∷ answer) c h = and_from (is_word text) _ (first_word text (sight ∷ answer) h) (and_from (is_u32 caller) (looked_fits (looked_of answer)) c (looked_fit answer))
 
 end_good : (caller : ℕ) (words : List (List ℕ)) → is_u32 caller ≡ true → AreWords words → IsReg (end_of caller words)
 unfolding IsReg IsGoodEnd
@@ -172,34 +169,34 @@ end_good caller [] c h = tt
 end_good caller (a ∷ []) c h = tt
 end_good caller (larval ∷ word ∷ words) c h =
     let g = ending_good word words (more_words word words (more_words larval (word ∷ words) h)) in
-    both (end_has_text (ending_of word words)) _ g.0 (both (is_u32 caller) _ c (both (is_u64 (number_of larval)) (end_fits (ending_of word words)) (number_fits larval) g.1))
+    and_from (end_has_text (ending_of word words)) _ g.0 (and_from (is_u32 caller) _ c (and_from (is_u64 (number_of larval)) (end_fits (ending_of word words)) (number_fits larval) g.1))
 
 unlist_good : (caller : ℕ) (words : List (List ℕ)) → is_u32 caller ≡ true → AreWords words → IsReg (unlist_of caller words)
 unfolding IsReg
 unlist_good caller [] c h = tt
 unlist_good caller (a ∷ []) c h = tt
-unlist_good caller (driver ∷ word ∷ []) c h = both (is_word driver) _ (first_word driver (word ∷ []) h) (both (is_u32 caller) true c refl)
-unlist_good caller (driver ∷ word ∷ id ∷ []) c h = both (is_word driver) _ (first_word driver (word ∷ id ∷ []) h) (both (is_u32 caller) (is_u64 (number_of id)) c (number_fits id))
+unlist_good caller (driver ∷ word ∷ []) c h = and_from (is_word driver) _ (first_word driver (word ∷ []) h) (and_from (is_u32 caller) true c refl)
+unlist_good caller (driver ∷ word ∷ id ∷ []) c h = and_from (is_word driver) _ (first_word driver (word ∷ id ∷ []) h) (and_from (is_u32 caller) (is_u64 (number_of id)) c (number_fits id))
 unlist_good caller (a ∷ b ∷ x ∷ y ∷ more) c h = tt
 
 get_good : (caller : ℕ) (words : List (List ℕ)) → is_u32 caller ≡ true → IsReg (get_of caller words)
 unfolding IsReg
 get_good caller [] c = tt
 get_good caller (a ∷ []) c = tt
-get_good caller (id ∷ word ∷ []) c = both (is_u32 caller) (is_u64 (number_of id)) c (number_fits id)
+get_good caller (id ∷ word ∷ []) c = and_from (is_u32 caller) (is_u64 (number_of id)) c (number_fits id)
 get_good caller (a ∷ b ∷ x ∷ more) c = tt
 
 refs_good : (caller : ℕ) (words : List (List ℕ)) → is_u32 caller ≡ true → AreWords words → IsReg (refs_of caller words)
 unfolding IsReg
 refs_good caller [] c h = tt
-refs_good caller (driver ∷ []) c h = both (is_word driver) (is_u32 caller) (first_word driver [] h) c
+refs_good caller (driver ∷ []) c h = and_from (is_word driver) (is_u32 caller) (first_word driver [] h) c
 refs_good caller (a ∷ b ∷ more) c h = tt
 
 numbered_good : (caller : ℕ) (name : List ℕ) (words : List (List ℕ)) → is_u32 caller ≡ true → IsReg (numbered_of caller name (lone_number words))
 unfolding IsReg
 numbered_good caller name [] c = tt
 numbered_good caller name (number ∷ []) c =
-    let f = both (is_u32 caller) (is_u64 (number_of number)) c (number_fits number) in
+    let f = and_from (is_u32 caller) (is_u64 (number_of number)) c (number_fits number) in
     let P : Option RegEntry → Type 0 = λ o. MatchOption o ⊤ (λ e. is_event e ≡ true) in
     either P (bytes_eq name (codes "claim")) _ _ f (either P (bytes_eq name (codes "waited")) _ _ f (either P (bytes_eq name (codes "put")) _ _ f tt))
 numbered_good caller name (a ∷ b ∷ more) c = tt
@@ -240,7 +237,7 @@ started_fit (word ∷ number ∷ x ∷ more) = refl
 origin_in_fits : (parts : List (List ℕ)) → origin_fits (origin_in parts) ≡ true
 origin_in_fits [] = refl
 origin_in_fits (line ∷ []) = small_fits line
-origin_in_fits (client ∷ line ∷ []) = both (is_u32 (small_of client)) (is_u32 (small_of line)) (small_fits client) (small_fits line)
+origin_in_fits (client ∷ line ∷ []) = and_from (is_u32 (small_of client)) (is_u32 (small_of line)) (small_fits client) (small_fits line)
 origin_in_fits (a ∷ b ∷ x ∷ more) = refl
 
 origin_read_fits : (word : List ℕ) → origin_fits (origin_read word) ≡ true
@@ -251,9 +248,9 @@ unfolding IsBrd
 born_good caller [] c = tt
 born_good caller (a ∷ []) c = tt
 born_good caller (a ∷ b ∷ []) c = tt
-born_good caller (pipe ∷ word ∷ size ∷ []) c = both (is_u32 caller) _ c (both (is_u64 (number_of pipe)) _ (number_fits pipe) (shape_fit word (small_of size) (small_fits size)))
+born_good caller (pipe ∷ word ∷ size ∷ []) c = and_from (is_u32 caller) _ c (and_from (is_u64 (number_of pipe)) _ (number_fits pipe) (shape_fit word (small_of size) (small_fits size)))
 born_good caller (pipe ∷ word ∷ max ∷ lists ∷ []) c =
-    both (is_u32 caller) _ c (both (is_u64 (number_of pipe)) _ (number_fits pipe) (both (is_u32 (small_of max)) (is_u32 (small_of lists)) (small_fits max) (small_fits lists)))
+    and_from (is_u32 caller) _ c (and_from (is_u64 (number_of pipe)) _ (number_fits pipe) (and_from (is_u32 (small_of max)) (is_u32 (small_of lists)) (small_fits max) (small_fits lists)))
 born_good caller (a ∷ b ∷ x ∷ y ∷ z ∷ more) c = tt
 
 submit_good : (caller : ℕ) (words : List (List ℕ)) → is_u32 caller ≡ true → IsBrd (submit_of caller words)
@@ -262,7 +259,7 @@ submit_good caller [] c = tt
 submit_good caller (a ∷ []) c = tt
 submit_good caller (a ∷ b ∷ []) c = tt
 submit_good caller (pipe ∷ number ∷ line ∷ []) c =
-    both (is_u32 caller) _ c (both (is_u64 (number_of pipe)) _ (number_fits pipe) (both (is_u64 (number_of number)) (origin_fits (origin_read line)) (number_fits number) (origin_read_fits line)))
+    and_from (is_u32 caller) _ c (and_from (is_u64 (number_of pipe)) _ (number_fits pipe) (and_from (is_u64 (number_of number)) (origin_fits (origin_read line)) (number_fits number) (origin_read_fits line)))
 submit_good caller (a ∷ b ∷ x ∷ y ∷ more) c = tt
 
 enq_good : (caller : ℕ) (words : List (List ℕ)) → is_u32 caller ≡ true → IsBrd (enq_of caller words)
@@ -271,20 +268,20 @@ enq_good caller [] c = tt
 enq_good caller (a ∷ []) c = tt
 enq_good caller (a ∷ b ∷ []) c = tt
 enq_good caller (pipe ∷ line ∷ backlog ∷ answer) c =
-    both (is_u32 caller) _ c (both (is_u64 (number_of pipe)) _ (number_fits pipe) (both (origin_fits (origin_read line)) (entered_fits (entered_of answer)) (origin_read_fits line) (entered_fit answer)))
+    and_from (is_u32 caller) _ c (and_from (is_u64 (number_of pipe)) _ (number_fits pipe) (and_from (origin_fits (origin_read line)) (entered_fits (entered_of answer)) (origin_read_fits line) (entered_fit answer)))
 
 deq_good : (caller : ℕ) (words : List (List ℕ)) → is_u32 caller ≡ true → IsBrd (deq_of caller words)
 unfolding IsBrd
 deq_good caller [] c = tt
 deq_good caller (a ∷ []) c = tt
 deq_good caller (pipe ∷ number ∷ answer) c =
-    both (is_u32 caller) _ c (both (is_u64 (number_of pipe)) _ (number_fits pipe) (both (is_u64 (number_of number)) (option_fits (started_of answer)) (number_fits number) (started_fit answer)))
+    and_from (is_u32 caller) _ c (and_from (is_u64 (number_of pipe)) _ (number_fits pipe) (and_from (is_u64 (number_of number)) (option_fits (started_of answer)) (number_fits number) (started_fit answer)))
 
 mask_good : (caller : ℕ) (words : List (List ℕ)) → is_u32 caller ≡ true → IsBrd (mask_of caller words)
 unfolding IsBrd
 mask_good caller [] c = tt
 mask_good caller (a ∷ []) c = tt
-mask_good caller (pipe ∷ mask ∷ []) c = both (is_u32 caller) _ c (both (is_u64 (number_of pipe)) (is_u16 (mask_in mask)) (number_fits pipe) (mask_fits mask))
+mask_good caller (pipe ∷ mask ∷ []) c = and_from (is_u32 caller) _ c (and_from (is_u64 (number_of pipe)) (is_u16 (mask_in mask)) (number_fits pipe) (mask_fits mask))
 mask_good caller (a ∷ b ∷ x ∷ more) c = tt
 
 shut_good : (caller : ℕ) → is_u32 caller ≡ true → IsBrd (Some (says.Shut caller))
@@ -295,11 +292,11 @@ short_good : (caller : ℕ) (name : List ℕ) (words : List (List ℕ)) → is_u
 unfolding IsBrd
 short_good caller name [] c = tt
 short_good caller name (pipe ∷ []) c =
-    let f = both (is_u32 caller) (is_u64 (number_of pipe)) c (number_fits pipe) in
+    let f = and_from (is_u32 caller) (is_u64 (number_of pipe)) c (number_fits pipe) in
     let P : Option (BoardEntry AskLine) → Type 0 = λ o. MatchOption o ⊤ (λ e. board_fits origin_of e ≡ true) in
     either P (bytes_eq name (codes "hold")) _ _ f (either P (bytes_eq name (codes "go")) _ _ f (either P (bytes_eq name (codes "close")) _ _ f (either P (bytes_eq name (codes "share")) _ _ f tt)))
 short_good caller name (pipe ∷ number ∷ []) c =
-    let f = both (is_u32 caller) _ c (both (is_u64 (number_of pipe)) (is_u64 (number_of number)) (number_fits pipe) (number_fits number)) in
+    let f = and_from (is_u32 caller) _ c (and_from (is_u64 (number_of pipe)) (is_u64 (number_of number)) (number_fits pipe) (number_fits number)) in
     let P : Option (BoardEntry AskLine) → Type 0 = λ o. MatchOption o ⊤ (λ e. board_fits origin_of e ≡ true) in
     either P (bytes_eq name (codes "take")) _ _ f (either P (bytes_eq name (codes "finish")) _ _ f (either P (bytes_eq name (codes "done")) _ _ f (either P (bytes_eq name (codes "collect")) _ _ f tt)))
 short_good caller name (a ∷ b ∷ x ∷ more) c = tt

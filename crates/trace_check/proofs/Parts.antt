@@ -1,5 +1,5 @@
 -- An event is right where none of its four parts is missing.
-use Rattle.std.proofs.Common.{◌≡◌, ◌≢◌, ℕ, Bool, true, false, cond, List, [], ◌∷◌, length, Option, Some, None, refl, sym, ap, subst, arith, inl, inr, ◌⊎◌}
+use Rattle.std.proofs.Common.{◌≡◌, ℕ, Bool, true, false, List, [], ◌∷◌, length, Option, Some, None, refl, sym, ap, subst, arith, inl, inr, ◌⊎◌}
 use Rattle.std.specs.Prelude.{slice_get, ⊤}
 use Rattle.board.specs.declared.entry.Shape.{Shape}
 use Rattle.board.specs.declared.entry.Shape.TheVariants.{Pad, Queue, Chain}
@@ -7,24 +7,25 @@ use Rattle.board.specs.declared.entry.Entered.{Entered}
 use Rattle.board.specs.declared.entry.Entered.TheVariants.{InProgress, Busy, NoSpace}
 use Rattle.board.specs.declared.entry.BoardEntry.{BoardEntry}
 use Rattle.board.specs.declared.entry.BoardEntry.TheVariants.{Born, Submit, Take, Finish, Enq, Deq, Done, Hold, Go, Collect, Close, Share, Mask, Shut}
-use Rattle.board.specs.Shapes.{pad_born, line_born}
-use Rattle.board.specs.Entries.{entries_of, birth, submissions, takers, verdict, is_closed, maker_is}
+use Rattle.board.specs.Shapes.{pad_born, has_queue_born}
+use Rattle.board.specs.Entries.{entries_of, birth, submissions, verdict, is_closed, maker_is}
 use Rattle.board.specs.Legal.{MayManage, IsOpen, pipelines, IsRight}
+use Rattle.board.proofs.KeptCalls.{not_closed}
 use Rattle.trace_check.specs.declared.reason.Reason.{Reason}
 use Rattle.trace_check.specs.declared.reason.Reason.TheVariants.{State, Caller, Number, Answer}
 use Rattle.trace_check.specs.BoardReasons.{IsNumbered, verdict_word, IsWrong}
 use Rattle.trace_check.specs.Pipes.{PipeState, judged}
-use Rattle.trace_check.proofs.Deciding.{open_unclosed, verdict_by}
+use Rattle.trace_check.proofs.Deciding.{verdict_by}
 use Rattle.trace_check.proofs.Judging.{IsBoard, IsPlace, HasAll, IsJudged, judged_is}
 use Rattle.trace_check.proofs.Requests.{some_taker}
 
-maker_some : (b : Option (ℕ × Shape)) (caller : ℕ) → maker_is b caller → (pad_born b ≡ true) ⊎ (line_born b ≡ true)
+maker_some : (b : Option (ℕ × Shape)) (caller : ℕ) → maker_is b caller → (pad_born b ≡ true) ⊎ (has_queue_born b ≡ true)
 maker_some None caller m = absurd m
 maker_some (Some (maker, Pad lists)) caller m = inl refl
 maker_some (Some (maker, Queue max)) caller m = inr refl
 maker_some (Some (maker, Chain max lists)) caller m = inr refl
 
-either_open : {A : Type 0} (es : List (BoardEntry A)) → is_closed es ≡ false → (pad_born (birth es) ≡ true) ⊎ (line_born (birth es) ≡ true) → IsOpen es
+either_open : {A : Type 0} (es : List (BoardEntry A)) → is_closed es ≡ false → (pad_born (birth es) ≡ true) ⊎ (has_queue_born (birth es) ≡ true) → IsOpen es
 either_open es c (inl p) = inl (p, c)
 either_open es c (inr q) = inr (q, c)
 
@@ -95,9 +96,9 @@ all_is_right h (Deq caller pipe number started) n (s, c, m, a) = (tt, (s.0, s.1.
 all_is_right h (Done caller pipe number) n (s, c, m, a) = (tt, (s.0, c, s.1.1))
 all_is_right h (Hold caller pipe) n (s, c, m, a) = (tt, (c, s))
 all_is_right h (Go caller pipe) n (s, c, m, a) = (tt, (c, s))
-all_is_right h (Collect caller pipe to) n (s, c, m, a) = (tt, (c, open_unclosed (entries_of pipe h) s, m))
-all_is_right h (Close caller pipe) n (s, c, m, a) = (tt, (c, open_unclosed (entries_of pipe h) s.0, s.1.0, s.1.1, s.1.2))
-all_is_right h (Share caller pipe) n (s, c, m, a) = (tt, (c, open_unclosed (entries_of pipe h) s))
+all_is_right h (Collect caller pipe to) n (s, c, m, a) = (tt, (c, not_closed (entries_of pipe h) s, m))
+all_is_right h (Close caller pipe) n (s, c, m, a) = (tt, (c, not_closed (entries_of pipe h) s.0, s.1.0, s.1.1, s.1.2))
+all_is_right h (Share caller pipe) n (s, c, m, a) = (tt, (c, not_closed (entries_of pipe h) s))
 all_is_right h (Mask caller pipe mask) n (s, c, m, a) = (tt, (c, s.0, s.1, m))
 all_is_right h (Shut caller) n (s, c, m, a) = (c, s)
 

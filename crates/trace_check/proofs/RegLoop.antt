@@ -1,8 +1,8 @@
 -- A registry's events are checked in order.
-use Rattle.std.proofs.Common.{◌≡◌, ℕ, ◌+◌, ◌<◌, ◌≤◌, ◌^◌, Bool, true, false, List, [], ◌∷◌, length, map, take, get_or, Some, None, refl, sym, ◌∙◌, ap, subst, arith}
+use Rattle.std.proofs.Common.{◌≡◌, ℕ, ◌+◌, ◌<◌, ◌^◌, Bool, true, false, List, [], ◌∷◌, length, map, take, get_or, Some, None, refl, sym, ◌∙◌, ap, subst, arith}
 use Rattle.std.specs.Prelude.{All, MatchOption}
 use Rattle.std.specs.List.{list_all}
-use Rattle.std.proofs.lemmas.List.{take_more, take_all, length-take, get_or-map, length-map}
+use Rattle.std.proofs.lemmas.List.{take_more, length-take, get_or-map, length-map}
 use Rattle.std.proofs.lemmas.List.Elements.{All-map}
 use Rattle.std.proofs.lemmas.List.Folds.{list_all_at}
 use Rattle.std.proofs.lemmas.Bool.{and_parts, and_from}
@@ -11,14 +11,14 @@ use Rattle.alg_registry.specs.declared.row.Row.{Row}
 use Rattle.alg_registry.specs.declared.row.Larval.{Larval}
 use Rattle.alg_registry.specs.declared.entry.RegEntry.{RegEntry}
 use Rattle.alg_registry.specs.Rows.{rows_of}
-use Rattle.alg_registry.specs.Legal.{LegalReg, IsRight}
+use Rattle.alg_registry.specs.Legal.{IsRight}
 use Rattle.alg_registry.proofs.Fresh.{few-rows_of}
 use Rattle.trace_text.specs.Trace.{has_text, fits, is_event}
 use Rattle.trace_check.specs.declared.reason.Reason.{Reason}
 use Rattle.trace_check.specs.declared.register.Reference.{Reference}
 use Rattle.trace_check.specs.declared.register.Entry.{Entry}
 use Rattle.trace_check.specs.RegReasons.{IsFirstWrong, IsWrong}
-use Rattle.trace_check.specs.Registers.{row_of, unreferred, opening_table, has_state, has_caller, has_number, has_answer, judged, table_after, larvals_after, references_after}
+use Rattle.trace_check.specs.Registers.{row_of, unreferred, has_state, has_caller, has_number, has_answer, judged, table_after, larvals_after, references_after}
 use Rattle.trace_check.proofs.RegParts.{all_is_right}
 use Rattle.trace_check.proofs.RegJudging.{IsRegister, judged_is}
 use Rattle.trace_check.proofs.RegStepping.{register_step}

@@ -1,6 +1,6 @@
 -- The checker's table of a registry goes on with a right event.
 use Rattle.std.proofs.Common.{◌≡◌, ℕ, zero, suc, ◌+◌, Bool, true, false, not, cond, ◌&&◌, ◌||◌, List, [], ◌∷◌, ◌++◌, length, map, Option, Some, None, is_none, refl, sym, ◌∙◌, ap, subst, arith}
-use Rattle.std.specs.Prelude.{◌==◌, slice_get, IsTrue, IsFalse, IsSome}
+use Rattle.std.specs.Prelude.{◌==◌, slice_get, IsTrue, IsSome}
 use Rattle.std.specs.List.{list_any}
 use Rattle.std.specs.Option.{option_map_or, option_and_then}
 use Rattle.std.proofs.lemmas.Bool.{and_parts, eqb-true}
@@ -16,7 +16,7 @@ use Rattle.alg_registry.specs.declared.entry.RegEntry.TheVariants as reg
 use Rattle.alg_registry.specs.Rows.{rows_of, larvals_of}
 use Rattle.alg_registry.specs.Answers.{look_answer, built_answer}
 use Rattle.alg_registry.specs.Legal as legal
-use Rattle.alg_registry.specs.Legal.{is_worker, IsPending, claimer, ended_as, gets_as, puts_as, HasReference}
+use Rattle.alg_registry.specs.Legal.{is_worker, ended_as, gets_as, puts_as}
 use Rattle.alg_registry.specs.Kept.{IsKept}
 use Rattle.trace_check.specs.declared.register.Reference.{Reference}
 use Rattle.trace_check.specs.RegReasons.{builds}
@@ -110,9 +110,6 @@ stepped h table rows' larvals' references' e k m r = record { legal = k.legal; m
 
 kept_now : (h : List RegEntry) (table : List Row) (larvals : List Larval) (references : List Reference) → IsRegister h table larvals references → IsKept h (rows_of h) larvals
 kept_now h table larvals references k = record { legal = k.legal; rows_are = refl; larvals_are = k.larvals_are }
-
-no_worker : (caller : ℕ) → IsFalse (legal.is_worker caller) → legal.is_worker caller ≡ false
-no_worker caller h = h
 
 a_larval : Larval
 a_larval = record { text = []; claimed = None; ended = None }

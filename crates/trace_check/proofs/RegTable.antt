@@ -13,7 +13,6 @@ use Rattle.alg_registry.specs.declared.entry.RegEntry.{RegEntry}
 use Rattle.alg_registry.specs.Rows.{stays_listed, marked, counted, standing, listed_at, rows_of}
 use Rattle.alg_registry.specs.Answers.{may_find, answers_to, better, best_from, found_best, found_driver, look_answer, clashes_with, driver_place, held_count}
 use Rattle.alg_registry.specs.Calls.{new_row, unlisted_row}
-use Rattle.alg_registry.specs.Kept.{IsKept}
 use Rattle.trace_check.specs.Registers.{unreferred}
 use Rattle.alg_registry.proofs.Standing.{bare, marked-bare}
 use Rattle.alg_registry.proofs.Restanding.{Stands, mark, same_stays, same_push, stands-from, standing-rows_of}

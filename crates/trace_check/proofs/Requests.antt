@@ -6,7 +6,6 @@ use Rattle.std.proofs.Math.Bool.{or-false}
 use Rattle.std.proofs.lemmas.Bool.{eq-eqb, ne_eqb, eqb-true, cases_eq, lt-leb}
 use Rattle.std.proofs.lemmas.List.{length-set, length_push, map-append}
 use Rattle.std.proofs.lemmas.List.Elements.{filter-append}
-use Rattle.std.proofs.lemmas.List.Folds.{list_any-append}
 use Rattle.std.specs.declared.cmp.Ordering.{Ordering}
 use Rattle.std.specs.declared.cmp.Ordering.TheVariants.{Less, Equal, Greater}
 use Rattle.std.specs.Prelude.{nat_lt}
@@ -17,15 +16,12 @@ use Rattle.board.specs.declared.entry.Shape.{Shape}
 use Rattle.board.specs.declared.entry.BoardEntry.{BoardEntry}
 use Rattle.board.specs.Shapes.{is_serial}
 use Rattle.board.specs.Entries.{birth, accepted_in, submissions, submitter_in, submitters, takers, finished_in, finished, has, unbroken, front}
+use Rattle.board.proofs.Lists.{filter_map-none, filter_map-some, has-more}
 use Rattle.trace_check.specs.declared.pipe.Progress.{Progress}
 use Rattle.trace_check.specs.declared.pipe.Progress.TheVariants.{Waits, Runs, Ended}
 use Rattle.trace_check.specs.Pipes.{has_submitted, has_ended, ended_run}
-use Rattle.trace_check.proofs.Histories.{filter_map-none, filter_map-some}
 use Rattle.trace_check.proofs.Places.{get-set_same, get-set_other, get-push_same, get-push_other}
 use Rattle.trace_check.proofs.Standing.{IsAt, AreRequests, AreSubmitters, taking, takers_by, takers_are, takers-same, born_still, at_like}
-
-has-more : (ns : List ℕ) (m n : ℕ) → has n (ns ++ m ∷ []) ≡ (has n ns || (m == n || false))
-has-more ns m n = list_any-append (λ k. k == n) ns (m ∷ [])
 
 pub takers-more : {A : Type 0} (es : List (BoardEntry A)) (e : BoardEntry A) (maker : ℕ) (shape : Shape) (n caller m : ℕ) → birth es ≡ Some (maker, shape) → taking (is_serial shape) e ≡ Some (n, caller) → takers m (es ++ e ∷ []) ≡ takers m es ++ cond (n == m) (caller ∷ []) []
 takers-more es e maker shape n caller m b t =

@@ -6,10 +6,12 @@ use Rattle.board.specs.declared.entry.Shape.{Shape}
 use Rattle.board.specs.declared.entry.BoardEntry.{BoardEntry}
 use Rattle.board.specs.Shapes.{is_serial, queue_born, width_born, IsShape}
 use Rattle.board.specs.Entries.{birth, accepted_in, submissions, submitter_in, submitters, dequeued_in, dequeues, dequeued, taken_in, takers, finished_in, finished, has, tells, told, collected_in, collected, held_in, is_held, masked_in, mask, last_or, is_close, is_closed, is_share, is_shared}
+use Rattle.board.proofs.Keeping.{birth_stays}
+use Rattle.board.proofs.Lists.{filter_map-none}
+use Rattle.board.proofs.Kept.{closed-same, collected-same, held-same, shared-same}
 use Rattle.trace_check.specs.declared.pipe.Progress.{Progress}
 use Rattle.trace_check.specs.declared.pipe.Progress.TheVariants.{Waits, Runs, Ended}
 use Rattle.trace_check.specs.Pipes.{PipeState, has_submitted, ended_run}
-use Rattle.trace_check.proofs.Histories.{filter_map-none, any-none, birth_stays}
 
 -- how far the request of a number is
 abbrev pub IsAt : {A : Type 0} → List (BoardEntry A) → ℕ → Option Progress → Type 0
@@ -115,32 +117,19 @@ requests_stay es e maker shape rs b a t f k = record {
 pub submitters_stay : {A : Type 0} (es : List (BoardEntry A)) (e : BoardEntry A) (noted : List ℕ) → submitter_in e ≡ None → AreSubmitters es noted → AreSubmitters (es ++ e ∷ []) noted
 submitters_stay es e noted s k = λ caller. ap (has caller) (filter_map-none submitter_in es e s) ∙ k caller
 
--- What an entry leaves of a pipeline's marks.
-pub collected_stays : {A : Type 0} (es : List (BoardEntry A)) (e : BoardEntry A) → collected_in e ≡ None → collected (es ++ e ∷ []) ≡ collected es
-collected_stays es e n = ap (last_or 0) (filter_map-none collected_in es e n)
-
 pub mask_stays : {A : Type 0} (es : List (BoardEntry A)) (e : BoardEntry A) (maker : ℕ) (shape : Shape) → birth es ≡ Some (maker, shape) → masked_in e ≡ None → mask (es ++ e ∷ []) ≡ mask es
 mask_stays es e maker shape b n =
     ap (λ o. last_or (2 ^ width_born o - 1) (filter_map masked_in (es ++ e ∷ []))) (birth_stays es e (ap is_some b))
     ∙ ap (last_or (2 ^ width_born (birth es) - 1)) (filter_map-none masked_in es e n)
-
-pub held_stays : {A : Type 0} (es : List (BoardEntry A)) (e : BoardEntry A) → held_in e ≡ None → is_held (es ++ e ∷ []) ≡ is_held es
-held_stays es e n = ap (last_or false) (filter_map-none held_in es e n)
-
-pub shared_stays : {A : Type 0} (es : List (BoardEntry A)) (e : BoardEntry A) → is_share e ≡ false → is_shared (es ++ e ∷ []) ≡ is_shared es
-shared_stays es e n = any-none is_share es e n
-
-pub closed_stays : {A : Type 0} (es : List (BoardEntry A)) (e : BoardEntry A) → is_close e ≡ false → is_closed (es ++ e ∷ []) ≡ is_closed es
-closed_stays es e n = any-none is_close es e n
 
 -- an entry that marks nothing
 pub marks_stay : {A : Type 0} (es : List (BoardEntry A)) (e : BoardEntry A) (maker : ℕ) (shape : Shape) (place bits : ℕ) (held shared closed : Bool) → MarksNothing e → IsMarked es maker shape place bits held shared closed → IsMarked (es ++ e ∷ []) maker shape place bits held shared closed
 marks_stay es e maker shape place bits held shared closed n k = record {
   born = born_still es e maker shape k.born;
   shaped = k.shaped;
-  place = collected_stays es e n.collects ∙ k.place;
+  place = collected-same es e n.collects ∙ k.place;
   masking = mask_stays es e maker shape k.born n.masks ∙ k.masking;
-  holding = held_stays es e n.holds ∙ k.holding;
-  sharing = shared_stays es e n.shares ∙ k.sharing;
-  closing = closed_stays es e n.closes ∙ k.closing;
+  holding = held-same es e n.holds ∙ k.holding;
+  sharing = shared-same es e n.shares ∙ k.sharing;
+  closing = closed-same es e n.closes ∙ k.closing;
 }

@@ -13,14 +13,16 @@ use Rattle.board.specs.declared.entry.Entered.{Entered}
 use Rattle.board.specs.declared.entry.Entered.TheVariants.{InProgress, Busy, NoSpace}
 use Rattle.board.specs.declared.entry.BoardEntry.{BoardEntry}
 use Rattle.board.specs.declared.entry.BoardEntry.TheVariants.{Born, Submit, Take, Finish, Enq, Deq, Done, Hold, Go, Collect, Close, Share, Mask, Shut}
-use Rattle.board.specs.Shapes.{has_line, has_lists, is_serial}
+use Rattle.board.specs.Shapes.{has_queue, has_lists, is_serial}
 use Rattle.board.specs.Entries.{front, accepted_in, submitter_in, dequeued_in, dequeues, taken_in, finished_in, finished, tells, told, collected_in, held_in, masked_in, is_share, is_close}
+use Rattle.board.proofs.Lists.{filter_map-none, filter_map-some}
+use Rattle.board.proofs.Kept.{closed-same, collected-same, held-same, shared-same}
 use Rattle.trace_check.specs.declared.pipe.Progress.{Progress}
 use Rattle.trace_check.specs.declared.pipe.Progress.TheVariants.{Waits, Runs, Ended}
 use Rattle.trace_check.specs.Pipes.{PipeState, passes, waits, runs, ended_run, has_state, has_number, is_open_as, may_serve, backlog_of, passed_by, same_number, starts_by, notices_in, with_request, with_entered, with_taken, with_ended, after}
-use Rattle.trace_check.proofs.Histories.{filter_map-none, filter_map-some, last_now, any_now, told_more, length-completes}
+use Rattle.trace_check.proofs.Histories.{last_now, any_now, told_more, length-completes}
 use Rattle.trace_check.proofs.Places.{get-set_other, get-push_same, get-push_other, run-push, run-taken, run-ended}
-use Rattle.trace_check.proofs.Standing.{AreRequests, IsMarked, IsLine, IsPipe, AsksNothing, MarksNothing, taking, no_taking, born_still, requests_stay, submitters_stay, collected_stays, mask_stays, held_stays, shared_stays, closed_stays, marks_stay}
+use Rattle.trace_check.proofs.Standing.{AreRequests, IsMarked, IsLine, IsPipe, AsksNothing, MarksNothing, taking, no_taking, born_still, requests_stay, submitters_stay, mask_stays, marks_stay}
 use Rattle.trace_check.proofs.Requests.{requests_accepted, requests_taken, requests_ended, submitters_more, front_is}
 use Rattle.trace_check.proofs.Judging.{is_inner}
 
@@ -214,7 +216,7 @@ pipe_step es s (Finish caller pipe number) i t m k =
 pipe_step es s (Enq caller pipe ask backlog answer) i t m k = entered_step es s caller pipe ask backlog answer k
 pipe_step es s (Deq caller pipe number started) i t m k =
     let next : number ≡ s.dequeued = eqb-true number s.dequeued (and_parts (number == s.dequeued) (same_number started (starts_by s number)) m).0 in
-    let serve = and_parts (not s.held) ((not (is_serial s.shape) || s.finished == s.dequeued) && nat_lt 0 (backlog_of s)) (and_parts (is_open_as has_line s) (may_serve s) t).1 in
+    let serve = and_parts (not s.held) ((not (is_serial s.shape) || s.finished == s.dequeued) && nat_lt 0 (backlog_of s)) (and_parts (is_open_as has_queue s) (may_serve s) t).1 in
     let some_wait : 0 < backlog_of s = ltb-true 0 (backlog_of s) (and_parts (not (is_serial s.shape) || s.finished == s.dequeued) (nat_lt 0 (backlog_of s)) serve.1).1 in
     dequeued_step es s caller pipe number started (is_serial s.shape) refl next (omega arith) k
 pipe_step es s (Done caller pipe number) i t m k =
@@ -227,22 +229,22 @@ pipe_step {A} es s (Hold caller pipe) i t m k =
     marks_one es s e s.collected s.mask true s.shared s.closed (record { accepts = refl; submits = refl; dequeues = refl; takes = refl; finishes = refl; tells_nothing = λ es. refl }) (record {
       born = born_still es e s.maker s.shape k.marks.born;
       shaped = k.marks.shaped;
-      place = collected_stays es e refl ∙ k.marks.place;
+      place = collected-same es e refl ∙ k.marks.place;
       masking = mask_stays es e s.maker s.shape k.marks.born refl ∙ k.marks.masking;
       holding = last_now false held_in es e true refl;
-      sharing = shared_stays es e refl ∙ k.marks.sharing;
-      closing = closed_stays es e refl ∙ k.marks.closing;
+      sharing = shared-same es e refl ∙ k.marks.sharing;
+      closing = closed-same es e refl ∙ k.marks.closing;
     }) k
 pipe_step {A} es s (Go caller pipe) i t m k =
     let e : BoardEntry A = Go caller pipe in
     marks_one es s e s.collected s.mask false s.shared s.closed (record { accepts = refl; submits = refl; dequeues = refl; takes = refl; finishes = refl; tells_nothing = λ es. refl }) (record {
       born = born_still es e s.maker s.shape k.marks.born;
       shaped = k.marks.shaped;
-      place = collected_stays es e refl ∙ k.marks.place;
+      place = collected-same es e refl ∙ k.marks.place;
       masking = mask_stays es e s.maker s.shape k.marks.born refl ∙ k.marks.masking;
       holding = last_now false held_in es e false refl;
-      sharing = shared_stays es e refl ∙ k.marks.sharing;
-      closing = closed_stays es e refl ∙ k.marks.closing;
+      sharing = shared-same es e refl ∙ k.marks.sharing;
+      closing = closed-same es e refl ∙ k.marks.closing;
     }) k
 pipe_step {A} es s (Collect caller pipe to) i t m k =
     let e : BoardEntry A = Collect caller pipe to in
@@ -251,19 +253,19 @@ pipe_step {A} es s (Collect caller pipe to) i t m k =
       shaped = k.marks.shaped;
       place = last_now 0 collected_in es e to refl;
       masking = mask_stays es e s.maker s.shape k.marks.born refl ∙ k.marks.masking;
-      holding = held_stays es e refl ∙ k.marks.holding;
-      sharing = shared_stays es e refl ∙ k.marks.sharing;
-      closing = closed_stays es e refl ∙ k.marks.closing;
+      holding = held-same es e refl ∙ k.marks.holding;
+      sharing = shared-same es e refl ∙ k.marks.sharing;
+      closing = closed-same es e refl ∙ k.marks.closing;
     }) k
 pipe_step {A} es s (Close caller pipe) i t m k =
     let e : BoardEntry A = Close caller pipe in
     marks_one es s e s.collected s.mask s.held s.shared true (record { accepts = refl; submits = refl; dequeues = refl; takes = refl; finishes = refl; tells_nothing = λ es. refl }) (record {
       born = born_still es e s.maker s.shape k.marks.born;
       shaped = k.marks.shaped;
-      place = collected_stays es e refl ∙ k.marks.place;
+      place = collected-same es e refl ∙ k.marks.place;
       masking = mask_stays es e s.maker s.shape k.marks.born refl ∙ k.marks.masking;
-      holding = held_stays es e refl ∙ k.marks.holding;
-      sharing = shared_stays es e refl ∙ k.marks.sharing;
+      holding = held-same es e refl ∙ k.marks.holding;
+      sharing = shared-same es e refl ∙ k.marks.sharing;
       closing = any_now is_close es e refl;
     }) k
 pipe_step {A} es s (Share caller pipe) i t m k =
@@ -271,21 +273,21 @@ pipe_step {A} es s (Share caller pipe) i t m k =
     marks_one es s e s.collected s.mask s.held true s.closed (record { accepts = refl; submits = refl; dequeues = refl; takes = refl; finishes = refl; tells_nothing = λ es. refl }) (record {
       born = born_still es e s.maker s.shape k.marks.born;
       shaped = k.marks.shaped;
-      place = collected_stays es e refl ∙ k.marks.place;
+      place = collected-same es e refl ∙ k.marks.place;
       masking = mask_stays es e s.maker s.shape k.marks.born refl ∙ k.marks.masking;
-      holding = held_stays es e refl ∙ k.marks.holding;
+      holding = held-same es e refl ∙ k.marks.holding;
       sharing = any_now is_share es e refl;
-      closing = closed_stays es e refl ∙ k.marks.closing;
+      closing = closed-same es e refl ∙ k.marks.closing;
     }) k
 pipe_step {A} es s (Mask caller pipe bits) i t m k =
     let e : BoardEntry A = Mask caller pipe bits in
     marks_one es s e s.collected bits s.held s.shared s.closed (record { accepts = refl; submits = refl; dequeues = refl; takes = refl; finishes = refl; tells_nothing = λ es. refl }) (record {
       born = born_still es e s.maker s.shape k.marks.born;
       shaped = k.marks.shaped;
-      place = collected_stays es e refl ∙ k.marks.place;
+      place = collected-same es e refl ∙ k.marks.place;
       masking = last_now _ masked_in es e bits refl;
-      holding = held_stays es e refl ∙ k.marks.holding;
-      sharing = shared_stays es e refl ∙ k.marks.sharing;
-      closing = closed_stays es e refl ∙ k.marks.closing;
+      holding = held-same es e refl ∙ k.marks.holding;
+      sharing = shared-same es e refl ∙ k.marks.sharing;
+      closing = closed-same es e refl ∙ k.marks.closing;
     }) k
 pipe_step es s (Shut caller) i t m k = cc

@@ -1,18 +1,18 @@
 -- A trace that is read so far.
-use Rattle.std.proofs.Common.{◌≡◌, ℕ, ◌+◌, ◌≤◌, Bool, true, not, List, [], ◌∷◌, ◌++◌, length, map, Some, refl, sym, ◌∙◌, ap, subst, arith, append-nil, append_assoc, Bor, length-append}
+use Rattle.std.proofs.Common.{◌≡◌, ℕ, ◌+◌, ◌≤◌, Bool, true, not, List, [], ◌∷◌, ◌++◌, length, map, refl, sym, ◌∙◌, ap, arith, append-nil, append_assoc, length-append}
 use Rattle.std.specs.Prelude.{◌==◌}
 use Rattle.std.specs.List.{list_all, flat_map, join_with_byte}
 use Rattle.std.proofs.lemmas.Bool.{and_parts, and_from}
-use Rattle.std.proofs.lemmas.List.{length_push, length-map}
+use Rattle.std.proofs.lemmas.List.{length-map}
 use Rattle.alg_registry.specs.declared.entry.RegEntry.{RegEntry}
 use Rattle.board.specs.declared.entry.BoardEntry.{BoardEntry}
 use Rattle.trace_check.specs.declared.lines.AskLine.{AskLine}
 use Rattle.trace_check.specs.declared.lines.Event.TheVariants as event
 use Rattle.trace_text.specs.Text.{sentence, reg_words, board_words}
 use Rattle.trace_text.specs.Trace.{trace_of, has_text, fits, board_fits, is_event, AreEvents}
-use Rattle.trace_check.specs.Lines.{origin_of, IsLineOf}
-use Rattle.trace_check.specs.Verdicts.{IsTraceOf, HasFront}
-use Rattle.trace_check.specs.Reading.{IsOneLine, IsCut}
+use Rattle.trace_check.specs.Lines.{origin_of}
+use Rattle.trace_check.specs.Verdicts.{HasFront}
+use Rattle.trace_check.specs.TraceReader.{IsOneLine}
 use Rattle.trace_check.proofs.Numerals.{words_unlike, is_not}
 use Rattle.trace_check.proofs.LineWords.{registry_are, board_are}
 use Rattle.trace_check.proofs.Cuts.{fed, text_of, AreLines}
@@ -104,10 +104,6 @@ all_front p (y ∷ xs) x h =
     let r = all_front p xs x k.1 in
     (and_from (p y) (list_all p xs) k.0 r.0, r.1)
 
-all_more : {X : Type 0} (p : X → Bool) (xs : List X) (x : X) → list_all p xs ≡ true → p x ≡ true → list_all p (xs ++ x ∷ []) ≡ true
-all_more p [] x h e = and_from (p x) true e refl
-all_more p (y ∷ xs) x h e = (let k = and_parts (p y) (list_all p xs) h in and_from (p y) (list_all p (xs ++ x ∷ [])) k.0 (all_more p xs x k.1 e))
-
 flat_more : {X : Type 0} (f : X → List ℕ) (xs : List X) (x : X) → flat_map f (xs ++ x ∷ []) ≡ flat_map f xs ++ f x
 flat_more f [] x = append-nil (f x)
 flat_more f (y ∷ xs) x = ap (λ t. f y ++ t) (flat_more f xs x) ∙ sym (append_assoc (f y) (flat_map f xs) (f x))
@@ -121,12 +117,3 @@ pub reg_more : (r : List RegEntry) (e : RegEntry) → trace_of origin_of (r ++ e
 reg_more r e =
     append-nil (flat_map (λ x. sentence (reg_words x)) (r ++ e ∷ []))
     ∙ (flat_more (λ x. sentence (reg_words x)) r e ∙ ap (λ t. t ++ sentence (reg_words e)) (sym (append-nil (flat_map (λ x. sentence (reg_words x)) r))))
-
--- What comes next.
-none_yet : (b : List (BoardEntry AskLine)) → length b ≡ 0 → b ≡ []
-none_yet [] h = refl
-none_yet (e ∷ b) h = absurd (omega arith)
-
-shorter : (text rest line more body : List ℕ) (count : ℕ) → count + length rest ≤ length text → line ≡ body ++ 10 ∷ [] → rest ≡ line ++ more → (count + 1) + length more ≤ length text
-shorter text rest line more body count h l r =
-    (let a = ap length r in let b = length-append line more in let c = ap length l in let d = length_push body 10 in omega arith)

@@ -20,7 +20,8 @@ use trace_text::HasScriptLine;
 /// legal histories is a legal trace.
 pub fn asks_are_lines<A: HasScriptLine>()
     ensures legal { (h : List (BoardEntry A)) → LegalBoard h ↔ LegalBoard (with_lines A.origin h) }
-    ensures traced { (r : List RegEntry) (h : List (BoardEntry A)) → AreEvents A.origin r h → LegalReg r → LegalBoard h → IsLegalTrace (trace_of A.origin r h) }
+    ensures traced { (r : List RegEntry) (h : List (BoardEntry A)) → AreEvents A.origin r h → LegalReg r → LegalBoard h
+        → IsLegalTrace (trace_of A.origin r h) }
 {}
 
 /// A text has one verdict.
@@ -30,10 +31,12 @@ pub fn one_verdict()
 
 /// An event of a registry whose names can be printed is right exactly where none of its four parts is missing.
 pub fn registry_reasons()
-    ensures right { (h : List RegEntry) (e : RegEntry) → has_text e ≡ true → (registry.IsRight h e ↔ (reg.HasState h e × reg.HasCaller h e × reg.HasNumber h e × reg.HasAnswer h e)) }
+    ensures right { (h : List RegEntry) (e : RegEntry) → has_text e ≡ true
+        → (registry.IsRight h e ↔ (reg.HasState h e × reg.HasCaller h e × reg.HasNumber h e × reg.HasAnswer h e)) }
 {}
 
 /// And so is an event of a board, after a legal history.
 pub fn board_reasons<A>()
-    ensures right { (h : List (BoardEntry A)) (e : BoardEntry A) → LegalBoard h → (board.IsRight h e ↔ (brd.HasState h e × brd.HasCaller h e × brd.HasNumber h e × brd.HasAnswer h e)) }
+    ensures right { (h : List (BoardEntry A)) (e : BoardEntry A) → LegalBoard h
+        → (board.IsRight h e ↔ (brd.HasState h e × brd.HasCaller h e × brd.HasNumber h e × brd.HasAnswer h e)) }
 {}

@@ -66,7 +66,10 @@ fn judge_enlist(
     spec: &Spec,
     answer: Enlisted,
 ) -> Result<Option<Reason>, AllocError>
-    ensures { IfOk result (λ reason. reason ≡ reason_of true (not (is_worker caller)) (same_made answer (enlisted_by (map row_of entries.now) spec.now)) (alike_made answer (enlisted_by (map row_of entries.now) spec.now))) }
+    ensures { IfOk result (λ reason. reason ≡ reason_of true
+        (not (is_worker caller))
+        (same_made answer (enlisted_by (map row_of entries.now) spec.now))
+        (alike_made answer (enlisted_by (map row_of entries.now) spec.now))) }
 {
     if is_worker(caller) {
         return Ok(Some(Reason::Caller));
@@ -80,7 +83,10 @@ fn judge_unlist(
     driver: &[u8],
     answer: Option<u64>,
 ) -> Option<Reason>
-    ensures { result ≡ reason_of true (not (is_worker caller)) (same_place answer (driver_place (map row_of entries.now) driver.now)) (alike_place answer (driver_place (map row_of entries.now) driver.now)) }
+    ensures { result ≡ reason_of true
+        (not (is_worker caller))
+        (same_place answer (driver_place (map row_of entries.now) driver.now))
+        (alike_place answer (driver_place (map row_of entries.now) driver.now)) }
 {
     if is_worker(caller) {
         return Some(Reason::Caller);

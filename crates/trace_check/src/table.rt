@@ -73,7 +73,8 @@ fn judge<A>(pipes: &[Pipeline], shut: bool, event: &BoardEntry<A>) -> Option<Rea
 // Goes on by an event of a pipeline.
 fn advance_at<A>(pipes: &mut Vec<Pipeline>, event: &BoardEntry<A>) -> Result<(), AllocError>
     requires { AllCanCount (map state_of pipes.old.items) }
-    ensures { OnOk result (map state_of pipes.new.items ≡ after_at (map state_of pipes.old.items) event.now (slice_get (map state_of pipes.old.items) (pipe_of event.now))) }
+    ensures { OnOk result (map state_of pipes.new.items
+        ≡ after_at (map state_of pipes.old.items) event.now (slice_get (map state_of pipes.old.items) (pipe_of event.now))) }
 {
     let place = pipe_of(event) as usize;
     if place < pipes.len() {

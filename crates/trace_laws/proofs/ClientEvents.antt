@@ -1,5 +1,5 @@
 -- The events of several scripts at once can be read back.
-use Rattle.std.proofs.Common.{◌≡◌, ◌≤◌, ◌<◌, ◌+◌, ◌-◌, ℕ, suc, zero, true, List, [], ◌∷◌, ◌++◌, length, map, refl, sym, ap, subst, ◌∙◌, arith, inl, inr, ◌⊎◌}
+use Rattle.std.proofs.Common.{◌≡◌, ◌≤◌, ◌<◌, ◌+◌, ◌-◌, ℕ, suc, zero, List, [], ◌∷◌, length, map, refl, sym, ap, subst, arith, inl, inr}
 use Rattle.std.specs.List.{All}
 use Rattle.std.proofs.lemmas.Bool.{cases_lt}
 use Rattle.std.proofs.lemmas.List.Elements.{All-head, All-tail, All-nil, All-cons, All-append}
@@ -11,15 +11,14 @@ use Rattle.dialogues.specs.BoardCalls.{board_calls}
 use Rattle.dialogues.specs.Texts.{IsClientText, AreFirstTexts}
 use Rattle.dialogues.specs.Transcripts.{Transcript}
 use Rattle.dialogues.specs.ScriptState.{ScriptState, Live, start, start_beside}
-use Rattle.script_text.specs.declared.commands.Line.{Line}
 use Rattle.script_text.specs.Lines.{lines_of}
 use Rattle.script_text.specs.Parts.{cut_lines, behind_mark, parts_of}
 use Rattle.script_text.specs.Script.{script_of}
 use Rattle.transforms.specs.declared.ask.Ask.{Ask}
-use Rattle.client_texts.specs.Outputs.{AreClientTexts, IsOutputBy, scripts_of}
-use Rattle.client_texts.specs.Sharing.{IsOneOf}
+use Rattle.client_texts.specs.Outputs.{AreClientTexts, IsOutputBy}
+use Rattle.client_texts.specs.OneList.{IsOneOf}
 use Rattle.trace_laws.specs.Clients.{ClientTracesCanBeRead}
-use Rattle.trace_laws.specs.Naming.{AsksOfWord}
+use Rattle.trace_laws.specs.DriverNames.{AsksOfWord}
 use Rattle.trace_laws.proofs.Asking.{EntryOf, entries_of_calls, beside_asks_of_words, part_asks_of_words, closing_asks_of_words}
 use Rattle.trace_laws.proofs.Events.{IsNamed, script_alone, events_have_text, are_events}
 use Rattle.trace_laws.proofs.Words.{lines_name_words}

@@ -1,2 +1,2 @@
 mod FittingIds
-mod SentenceLemmas
+pub mod SentenceLemmas

@@ -1,3 +1,4 @@
 pub mod Text
 pub mod Trace
 pub mod Asks
+pub mod Sentences

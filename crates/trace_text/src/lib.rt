@@ -3,6 +3,7 @@
 
 mod board_text;
 mod registry_text;
+mod sentence_builder;
 mod trace_writer;
 mod words;
 

@@ -1,30 +1,13 @@
 //! The words of events.
 
-ghost use Rattle.std.specs.Prelude.{◌≡◌, ◌<◌, ◌∷◌, true, map, IfOk, OnOk};
+ghost use Rattle.std.specs.Prelude.{◌≡◌, ◌<◌, ◌∷◌, true, IfOk, OnOk};
 ghost use Rattle.std.specs.List.{list_all};
-ghost use Rattle.trace_text.specs.Text.{sentence, kind_word, wrap_word, ids_word, plain_word, get_word, backlog_word, hex_digit, mask_word};
+ghost use Rattle.trace_text.specs.Text.{kind_word, wrap_word, ids_word, plain_word, get_word, backlog_word, hex_digit, mask_word};
 ghost use Rattle.trace_text.specs.Trace.{is_u64};
 
 use alg_registry::{Kind, Wrap};
 use kc_base::Bytes;
 use std::alloc::{AllocError, Global};
-
-/// A line of these words.
-pub(crate) fn sentence_of(
-    alloc: Global,
-    first: &[u8],
-    others: &[&[u8]],
-) -> Result<Bytes, AllocError>
-    ensures { IfOk result (λ text. text ≡ sentence (first.now ∷ map (λ word. word.now) others.now)) }
-{
-    let mut text = Bytes::copy_of(alloc, first)?;
-    for word in others {
-        text.push(b' ')?;
-        text.append(word)?;
-    }
-    text.push(b'\n')?;
-    Ok(text)
-}
 
 pub(crate) fn kind_word(kind: Kind) -> &'static [u8]
     ensures { result.now ≡ kind_word kind }

@@ -1,11 +1,11 @@
 -- The bytes of a value are at most 64 more than those of its request's text.
-use Rattle.std.proofs.Common.{◌≡◌, ℕ, zero, suc, ◌+◌, ◌-◌, ◌*◌, ◌/◌, ◌%◌, ◌≤◌, Bool, true, false, cond, List, [], ◌++◌, length, take, drop, Option, Some, None, refl, arith, length-append, length-take, length-drop}
+use Rattle.std.proofs.Common.{◌≡◌, ℕ, suc, ◌+◌, ◌-◌, ◌*◌, ◌/◌, ◌%◌, ◌≤◌, Bool, true, false, cond, List, [], ◌++◌, length, take, drop, Option, Some, None, refl, arith, length-append, length-take, length-drop}
 use Rattle.std.specs.Prelude.{◌==◌, bytes_eq, bit_xor, slice_index, slice_index_or}
 use Rattle.std.specs.Arc.{arc_value}
 use Rattle.std.specs.Option.{option_map}
 use Rattle.std.proofs.lemmas.List.FromFn.{length-map-range_with_len}
 use Rattle.sha2.proofs.Facts256.{length-sha256}
-use Rattle.std_defs.specs.Aes.{key_schedule, rounds, sub_bytes, inverse_sub_bytes, shift_rows, inverse_shift_rows, inverse_mix_columns, add_round_key, after_rounds, before_rounds, cipher, inverse_cipher, seal, unseal}
+use Rattle.std_defs.specs.Aes.{key_schedule, rounds, sub_bytes, shift_rows, add_round_key, after_rounds, cipher, seal, unseal}
 use Rattle.std_defs.specs.Authenc.{blob}
 use Rattle.std_defs.specs.Blocks.{block_number, xor_blocks, text_block, joined, with_stream}
 use Rattle.std_defs.specs.Ccm.{ccm_takes_iv, ccm_counter, ccm_text, ccm_tag, ccm_chained, ccm_seal, ccm_open}
@@ -83,16 +83,6 @@ round-length w r s = length-map-range_with_len (λ i. bit_xor (slice_index s i) 
 seal-length : (key block : List ℕ) → length (seal key block) ≡ 16
 unfolding seal cipher
 seal-length key block = round-length (key_schedule key) (rounds key) (shift_rows (sub_bytes (after_rounds (key_schedule key) block (rounds key - 1))))
-
-before-length : (w : List (List ℕ)) (n : ℕ) (s : List ℕ) → length (before_rounds w s n) ≡ 16
-unfolding before_rounds
-before-length w zero s = round-length w 0 s
-before-length w (suc n) s = before-length w n (inverse_sub_bytes (inverse_shift_rows (inverse_mix_columns (add_round_key w (suc n) s))))
-
-unseal-length : (key block : List ℕ) → length (unseal key block) ≡ 16
-unfolding unseal inverse_cipher
-unseal-length key block =
-    before-length (key_schedule key) (rounds key - 1) (inverse_sub_bytes (inverse_shift_rows (add_round_key (key_schedule key) (rounds key) block)))
 
 -- a block for each whole one of the text
 whole-length : (text : List ℕ) (blocks : ℕ → List ℕ) → ((j : ℕ) → length (blocks j) ≡ 16) → length (joined blocks (length text / 16)) ≤ length text + 16

@@ -1,5 +1,5 @@
 -- the value of what a job gives
-use Rattle.std.specs.Prelude.{◌≡◌, refl, ℕ, length}
+use Rattle.std.specs.Prelude.{ℕ, length}
 use Rattle.std_defs.specs.Value.{Value}
 use Rattle.std_defs.specs.Value.Value.{bytes, bad_message, invalid}
 use Rattle.transforms.specs.declared.request.Finished.{Finished}
@@ -21,8 +21,3 @@ abbrev pub finished_length : Finished → ℕ
 finished_length (Bytes made) = length made
 finished_length BadMsg = 0
 finished_length Invalid = 0
-
-pub finished_of-finished_value : (f : Finished) → finished_of (finished_value f) ≡ f
-finished_of-finished_value (Bytes made) = refl
-finished_of-finished_value BadMsg = refl
-finished_of-finished_value Invalid = refl

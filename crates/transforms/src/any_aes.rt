@@ -25,7 +25,9 @@ impl AnyAes {
 
     /// `Inval` exactly where the key hasn't 16, 24 or 32 bytes.
     pub(crate) fn new(alloc: Global, form: AesForm, key: &[u8]) -> Result<AnyAes, TfmErr>
-        ensures { MatchResult result (λ a. IsKeyLength (length key.now) × (key_of a ≡ key.now) × (form_of a ≡ form)) (λ e. IsNotKept e (is_key_length (length key.now))) }
+        ensures { MatchResult result
+            (λ a. IsKeyLength (length key.now) × (key_of a ≡ key.now) × (form_of a ≡ form))
+            (λ e. IsNotKept e (is_key_length (length key.now))) }
     {
         match form {
             AesForm::AesGeneric => Ok(AnyAes::Generic(Aes::new(key)?)),

@@ -5,7 +5,7 @@ ghost use Rattle.std.specs.Thread.{IsSync};
 ghost use Rattle.turn_lock.specs.declared.tests.Entry.{Entry};
 ghost use Rattle.turn_lock.specs.Passes.{knows, IsPassOf};
 ghost use Rattle.turn_lock.specs.Turns.{of};
-ghost use Rattle.turn_lock.specs.Meeting.{AtTurn, Enters, Leaves};
+ghost use Rattle.turn_lock.specs.PassLaws.{AtTurn, Enters, Leaves};
 
 use crate::{Pass, Told, TurnLock};
 use std::alloc::{AllocError, Global};
@@ -36,7 +36,9 @@ impl Told for Log {
 
 impl Log {
     fn add(&mut self, by: u32, place: u32) -> Result<(), AllocError>
-        ensures { MatchResult result (λ _. self.new.entries.items ≡ self.old.entries.items ++ record { by = by; place = place } ∷ []) (λ _. self.new.entries.items ≡ self.old.entries.items) }
+        ensures { MatchResult result
+            (λ _. self.new.entries.items ≡ self.old.entries.items ++ record { by = by; place = place } ∷ [])
+            (λ _. self.new.entries.items ≡ self.old.entries.items) }
     {
         self.entries.push(Entry { by, place })?;
         Ok(())

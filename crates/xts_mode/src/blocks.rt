@@ -64,7 +64,8 @@ fn turn_eight<D: Direction>(direction: &D, tweak: &mut Tweak, text: &mut [u8])
 #[tactic(auto, unfolding(std_defs::specs::Blocks::text_block))]
 fn some_masked(text: &[u8], masks: &[[u8; 16]; 8]) -> [[u8; 16]; 8]
     requires { length text.now ≤ 128 }
-    ensures { (j : ℕ) → j < length text.now / 16 → slice_index_or result j [] ≡ xor_blocks (text_block text.now j) (slice_index_or masks.now j []) }
+    ensures { (j : ℕ) → j < length text.now / 16
+        → slice_index_or result j [] ≡ xor_blocks (text_block text.now j) (slice_index_or masks.now j []) }
 {
     let mut some = [[0u8; 16]; 8];
     for j in 0..text.len() / 16 {
@@ -164,7 +165,8 @@ fn exchange(text: &mut [u8])
 pub(crate) fn steal<D: Direction>(direction: &D, first: &Tweak, second: &Tweak, text: &mut [u8])
     requires block { 16 ≤ length text.old }
     requires less_than_two { length text.old < 32 }
-    ensures { text.new ≡ with_stealing (xts_block (D.turned direction.now) first.now 0) (xts_block (D.turned direction.now) second.now 0) text.old }
+    ensures { text.new
+        ≡ with_stealing (xts_block (D.turned direction.now) first.now 0) (xts_block (D.turned direction.now) second.now 0) text.old }
 {
     turn_block(direction, first, &mut text[..16]);
     exchange(text);

@@ -1,5 +1,5 @@
-use Rattle.std.proofs.Common.{◌≡◌, ◌∷◌, ◌++◌, ◌<◌, length, subst}
-use Rattle.client_run.proofs.Answering.{stopped, stops-then, answering-begins, answering-stops, answering-more, answering-ends, answering-malformed}
+use Rattle.script_session.proofs.Probed.{stopped}
+use Rattle.client_run.proofs.Answering.{stops-then, answering-begins, answering-stops, answering-more, answering-ends, answering-malformed}
 use Rattle.client_run.proofs.part.answer_part.Goals as goal
 
 pub loop-line-init : goal.loop-line-init

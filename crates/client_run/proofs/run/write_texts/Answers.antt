@@ -1,7 +1,7 @@
 use Rattle.std.proofs.Common.{arith, subst, sym}
 use Rattle.std.specs.Io.KnownBytes.{Appends}
 use Rattle.kc_base.specs.Streams.{AppendsFront}
-use Rattle.client_run.proofs.Answering.{stopped}
+use Rattle.script_session.proofs.Probed.{stopped}
 use Rattle.client_run.proofs.Texts.{writing-more, writing-front}
 use Rattle.client_run.proofs.run.write_texts.Goals as goal
 

@@ -1,4 +1,3 @@
-use Rattle.turn_lock.specs.Passes.{knows}
 use Rattle.crew.proofs.both.work_or_build.Goals as goal
 
 pub returns-clause-worked : goal.returns-clause-worked

@@ -1,6 +1,5 @@
-use Rattle.std.proofs.Common.{rules, ◌≡◌, ◌+◌, ◌-◌, [], ◌∷◌, ap, map, refl, ◌∙◌}
+use Rattle.std.proofs.Common.{rules, ◌≡◌, ◌+◌, [], ◌∷◌, ap, map, refl, ◌∙◌}
 use Rattle.turn_lock.specs.Passes.{knows}
-use Rattle.turn_lock.specs.Turns.{Known}
 use Rattle.crew.proofs.Peering.{peered_more, outs_more, both_more}
 use Rattle.crew.proofs.peers.+fn-run_peers-join+arg3+run_peers.Goals as goal
 

@@ -1,4 +1,4 @@
-use Rattle.std.proofs.Common.{◌≡◌, ◌∙◌, ◌+◌, ◌++◌, List, ℕ, [], ap, sym, arith, length, take, drop, replicate, length-append}
+use Rattle.std.proofs.Common.{◌≡◌, ◌∙◌, ◌+◌, ◌++◌, ℕ, [], ap, sym, arith, length, take, drop, replicate, length-append}
 use Rattle.sha2.specs.Sha256.{padding}
 use Rattle.in_step.proofs.Behind.{filled_none, filled_more}
 use Rattle.in_step.proofs.Padded.{later, over_padding}

@@ -1,5 +1,4 @@
-use Rattle.std.proofs.Common.{◌≡◌, ◌∙◌, ◌+◌, ◌++◌, ◌∷◌, [], take, ap, sym, map}
-use Rattle.std.specs.Arc.{arc_value}
+use Rattle.std.proofs.Common.{◌≡◌, ◌∙◌, ◌+◌, ◌++◌, ◌∷◌, [], take, ap, sym}
 use Rattle.std.proofs.lemmas.List.{take_more}
 use Rattle.dialogues.specs.BoardCalls.{origin_of}
 use Rattle.recorded_calls.proofs.Gathers.{lines-more}

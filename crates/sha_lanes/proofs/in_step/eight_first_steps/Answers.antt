@@ -1,6 +1,6 @@
 use Rattle.std.proofs.Common.{◌∙◌, ap, arith, slice_index}
 use Rattle.sha2.specs.Sha256.{schedule}
-use Rattle.sha_lanes.specs.Lanes.{block_at, in_lane}
+use Rattle.sha_lanes.specs.Lanes.{block_at}
 use Rattle.sha_lanes.proofs.Steps.{at}
 use Rattle.sha_lanes.proofs.Matrix.{word_in}
 use Rattle.sha_lanes.proofs.in_step.eight_first_steps.Goals as goal

@@ -9,7 +9,7 @@ use Rattle.shared_registry.proofs.Origins.{one_more, exist_on, exist_get}
 use Rattle.shared_registry.proofs.builds.origins.Goals as goal
 
 pub loop-id-init : goal.loop-id-init
-loop-id-init g c = (c.requires.lock, idles_still (knows c.args.pass) c.requires.sound, c.new-below.ensures.items)
+loop-id-init g c = (c.requires.ready.lock, idles_still (knows c.args.pass) c.requires.ready.sound, c.new-below.ensures.items)
 
 pub add_origin-back-requires-clause-exists : goal.add_origin-back-requires-clause-exists
 add_origin-back-requires-clause-exists g c =

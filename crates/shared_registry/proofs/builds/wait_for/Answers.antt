@@ -1,11 +1,11 @@
 use Rattle.std.proofs.Common.{ap, ◌∙◌, Ok, [], subst, sym}
 use Rattle.turn_lock.specs.Passes.{knows}
-use Rattle.shared_registry.specs.Building.{Ends}
+use Rattle.shared_registry.specs.Builds.{Ends}
 use Rattle.shared_registry.proofs.Waiting.{idles_still, began_on, still_waits, lacked, has_waited, has_ended}
 use Rattle.shared_registry.proofs.builds.wait_for.Goals as goal
 
 pub loop-init : goal.loop-init
-loop-init g c = (c.requires.lock, idles_still (knows c.args.pass) c.requires.sound)
+loop-init g c = (c.requires.ready.lock, idles_still (knows c.args.pass) c.requires.ready.sound)
 
 pub waited-back-requires-clause-began : goal.waited-back-requires-clause-began
 waited-back-requires-clause-began g c = began_on (knows c.args.pass) (knows c.loop.mine) [] c.args.larval c.loop.invariant.1.goes c.requires.began

@@ -1,5 +1,5 @@
 use Rattle.std.specs.Prelude.{IsSome, IfErr, Result, Ok, Err, OnOk}
-use Rattle.std.proofs.Common.{arith, inl, ◌≡◌, ◌<◌, sym, ap, subst, refl}
+use Rattle.std.proofs.Common.{arith, inl, ◌≡◌, ◌<◌, sym, subst, refl}
 use Rattle.board.specs.Entries.{entries_of, mask}
 use Rattle.board.specs.Legal.{IsOpenPad}
 use Rattle.board.specs.Places.{places}

@@ -9,7 +9,6 @@ use Rattle.recorded_calls.proofs.board_caller.BoardCaller.born_chain.Goals as go
 
 pub returns-clause-opened : goal.returns-clause-opened
 returns-clause-opened g c =
-    let at_hand : c.args.self.now ≡ Some c.unwrap-pass.result = sym c.self.view_is ∙ (sym c.take.ensures.value ∙ c.unwrap-pass.ensures) in
     let after = known (Some c.born_chain-pass.result.0) in
-    subst (λ o. MatchResult c.born_chain-pass.result.1 (λ number. Opened (known o) after number (Chain c.args.max c.args.lists)) (λ e. (e ≡ Memory) × Unchanged (known o) after)) (sym at_hand)
-    (born-opened c.board_laws.ensures (known (Some c.unwrap-pass.result)) after (Chain c.args.max c.args.lists) c.born_chain-pass.result.1 (subst (λ o. IsNoWorker (known o).number) at_hand c.requires.caller) c.born_chain-pass.ensures.turn)
+    subst (λ o. MatchResult c.born_chain-pass.result.1 (λ number. Opened (known o) after number (Chain c.args.max c.args.lists)) (λ e. (e ≡ Memory) × Unchanged (known o) after)) (sym c.take_pass-pass.ensures)
+    (born-opened c.board_laws.ensures (known (Some c.take_pass-pass.result)) after (Chain c.args.max c.args.lists) c.born_chain-pass.result.1 (subst (λ o. IsNoWorker (known o).number) c.take_pass-pass.ensures c.requires.caller) c.born_chain-pass.ensures.turn)

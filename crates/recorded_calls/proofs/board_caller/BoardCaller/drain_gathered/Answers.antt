@@ -2,45 +2,42 @@ use Rattle.std.proofs.Common.{◌≡◌, ◌+◌, length, Some, sym, ◌∙◌, 
 use Rattle.kc_base.specs.declared.callback_list.Callback.{Callback}
 use Rattle.board.specs.Alone.{PeersGone}
 use Rattle.board.specs.Entries.{entries_of}
-use Rattle.board.specs.Handing.{completions}
+use Rattle.board.specs.HandedOut.{completions}
 use Rattle.board.specs.Legal.{LegalBoard}
 use Rattle.board.specs.declared.board_core.BoardErr.TheVariants.{Memory}
 use Rattle.transforms.specs.declared.request.Finished.{Finished}
 use Rattle.dialogues.specs.ScriptState.{PipelineState}
 use Rattle.recorded_calls.specs.Passes.{known}
 use Rattle.recorded_calls.specs.Pipelines.{Unchanged}
-use Rattle.recorded_calls.specs.Sharing.{KnowsGathered, DrainedLent}
+use Rattle.recorded_calls.specs.SharedCalls.{KnowsGathered, DrainedLent}
 use Rattle.recorded_calls.proofs.BoardCalls.{is-open}
 use Rattle.recorded_calls.proofs.Gathers.{drain-gathers}
 use Rattle.recorded_calls.proofs.board_caller.BoardCaller.drain_gathered.Goals as goal
 
 pub drain-pass-requires-clause-caller : goal.drain-pass-requires-clause-caller
 drain-pass-requires-clause-caller g c κs within =
-    let at_hand : c.args.self.now ≡ Some c.unwrap-pass.result = sym c.self.view_is ∙ (sym c.take.ensures.value ∙ c.unwrap-pass.ensures) in
     let i = c.pipe.inside in
     let p : PipelineState = record { number = i.number; bound = i.bound; held = i.held; mask_is_empty = i.mask_is_empty; lines = i.lines; delivered = i.delivered } in
-    let on = subst (λ o. KnowsGathered (known o) p) at_hand (subst (KnowsGathered (known c.args.self.now)) (sym c.pipe.view_is) c.requires.pipe) in
+    let on = subst (λ o. KnowsGathered (known o) p) c.take_pass-pass.ensures (subst (KnowsGathered (known c.args.self.now)) (sym c.pipe.view_is) c.requires.pipe) in
     on.lent.managed
 
 pub drain-pass-requires-clause-pipe : goal.drain-pass-requires-clause-pipe
 drain-pass-requires-clause-pipe g c κs within =
-    let at_hand : c.args.self.now ≡ Some c.unwrap-pass.result = sym c.self.view_is ∙ (sym c.take.ensures.value ∙ c.unwrap-pass.ensures) in
     let i = c.pipe.inside in
     let p : PipelineState = record { number = i.number; bound = i.bound; held = i.held; mask_is_empty = i.mask_is_empty; lines = i.lines; delivered = i.delivered } in
-    let on = subst (λ o. KnowsGathered (known o) p) at_hand (subst (KnowsGathered (known c.args.self.now)) (sym c.pipe.view_is) c.requires.pipe) in
-    is-open p.bound (entries_of p.number (known (Some c.unwrap-pass.result)).seen) on.lent.opened
+    let on = subst (λ o. KnowsGathered (known o) p) c.take_pass-pass.ensures (subst (KnowsGathered (known c.args.self.now)) (sym c.pipe.view_is) c.requires.pipe) in
+    is-open p.bound (entries_of p.number (known (Some c.take_pass-pass.result)).seen) on.lent.opened
 
 pub returns-clause-drained : goal.returns-clause-drained
 returns-clause-drained g c =
-    let at_hand : c.args.self.now ≡ Some c.unwrap-pass.result = sym c.self.view_is ∙ (sym c.take.ensures.value ∙ c.unwrap-pass.ensures) in
     let i = c.pipe.inside in
     let p : PipelineState = record { number = i.number; bound = i.bound; held = i.held; mask_is_empty = i.mask_is_empty; lines = i.lines; delivered = i.delivered } in
-    let on = subst (λ o. KnowsGathered (known o) p) at_hand (subst (KnowsGathered (known c.args.self.now)) (sym c.pipe.view_is) c.requires.pipe) in
+    let on = subst (λ o. KnowsGathered (known o) p) c.take_pass-pass.ensures (subst (KnowsGathered (known c.args.self.now)) (sym c.pipe.view_is) c.requires.pipe) in
     let into = c.args.into.now.list in
     let into' = c.drain-pass.new.into.list in
-    let before = known (Some c.unwrap-pass.result) in
+    let before = known (Some c.take_pass-pass.result) in
     let after = known (Some c.drain-pass.result.0) in
     let r = c.drain-pass.result.1 in
-    subst (λ o. MatchResult r (λ _. (callbacks : List (Callback Finished)) × (into' ≡ into ++ callbacks) × DrainedLent (known o) after c.args.pipe.now callbacks × (c.args.pipe.now.delivered + completions callbacks ≡ length c.args.pipe.now.lines)) (λ e. (e ≡ Memory) × (into' ≡ into) × Unchanged (known o) after × (after.ended ≡ (known o).ended))) (sym at_hand)
+    subst (λ o. MatchResult r (λ _. (callbacks : List (Callback Finished)) × (into' ≡ into ++ callbacks) × DrainedLent (known o) after c.args.pipe.now callbacks × (c.args.pipe.now.delivered + completions callbacks ≡ length c.args.pipe.now.lines)) (λ e. (e ≡ Memory) × (into' ≡ into) × Unchanged (known o) after × (after.ended ≡ (known o).ended))) (sym c.take_pass-pass.ensures)
     (subst (λ (p : PipelineState). MatchResult r (λ _. (callbacks : List (Callback Finished)) × (into' ≡ into ++ callbacks) × DrainedLent before after p callbacks × (p.delivered + completions callbacks ≡ length p.lines)) (λ e. (e ≡ Memory) × (into' ≡ into) × Unchanged before after × (after.ended ≡ before.ended))) c.pipe.view_is
-    (drain-gathers c.sharing_laws.ensures before after p into into' r (subst (λ o. PeersGone (known o)) at_hand c.requires.gone) (subst (λ o. LegalBoard (known o).seen) at_hand c.requires.legal) on c.drain-pass.ensures.drained))
+    (drain-gathers c.sharing_laws.ensures before after p into into' r (subst (λ o. PeersGone (known o)) c.take_pass-pass.ensures c.requires.gone) (subst (λ o. LegalBoard (known o).seen) c.take_pass-pass.ensures c.requires.legal) on c.drain-pass.ensures.drained))

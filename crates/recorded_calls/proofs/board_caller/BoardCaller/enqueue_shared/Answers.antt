@@ -8,33 +8,31 @@ use Rattle.dialogues.specs.BoardCalls.{Enqueues, asked_by}
 use Rattle.dialogues.specs.ScriptState.{PipelineState}
 use Rattle.recorded_calls.specs.Passes.{known}
 use Rattle.recorded_calls.specs.Pipelines.{Unchanged, entered_asks}
-use Rattle.recorded_calls.specs.Sharing.{KnowsShared, Gave}
+use Rattle.recorded_calls.specs.SharedCalls.{KnowsShared, Gave}
 use Rattle.recorded_calls.proofs.BoardCalls.{enqueue-refused, not-unserved, by-allowance}
 use Rattle.recorded_calls.proofs.Sharings.{enqueue-gave}
 use Rattle.recorded_calls.proofs.board_caller.BoardCaller.enqueue_shared.Goals as goal
 
 pub returns-clause-entered : goal.returns-clause-entered
 returns-clause-entered g c =
-    let at_hand : c.args.self.now ≡ Some c.unwrap-pass.result = sym c.self.view_is ∙ (sym c.take.ensures.value ∙ c.unwrap-pass.ensures) in
     let i = c.pipe.inside in
     let p : PipelineState = record { number = i.number; bound = i.bound; held = i.held; mask_is_empty = i.mask_is_empty; lines = i.lines; delivered = i.delivered } in
     let ask = arc_value c.args.job.ask in
     let backlog = c.args.backlog in
     let r = c.enqueue-pass.result.1 in
     let l = known (Some c.enqueue-pass.result.0) in
-    subst (λ o. MatchResult r (λ answer. Gave (known o) l (Enqueues c.args.pipe.now.number (asked_by ask) backlog answer ∷ []) (entered_asks ask answer)) (λ _. Unchanged (known o) l)) (sym at_hand)
-    (subst (λ (p : PipelineState). MatchResult r (λ answer. Gave (known (Some c.unwrap-pass.result)) l (Enqueues p.number (asked_by ask) backlog answer ∷ []) (entered_asks ask answer)) (λ _. Unchanged (known (Some c.unwrap-pass.result)) l)) c.pipe.view_is
-    (enqueue-gave c.sharing_laws.ensures (known (Some c.unwrap-pass.result)) l p ask backlog _ r (subst (λ o. KnowsShared (known o) p) at_hand (subst (KnowsShared (known c.args.self.now)) (sym c.pipe.view_is) c.requires.pipe)) c.enqueue-pass.ensures.turn))
+    subst (λ o. MatchResult r (λ answer. Gave (known o) l (Enqueues c.args.pipe.now.number (asked_by ask) backlog answer ∷ []) (entered_asks ask answer)) (λ _. Unchanged (known o) l)) (sym c.take_pass-pass.ensures)
+    (subst (λ (p : PipelineState). MatchResult r (λ answer. Gave (known (Some c.take_pass-pass.result)) l (Enqueues p.number (asked_by ask) backlog answer ∷ []) (entered_asks ask answer)) (λ _. Unchanged (known (Some c.take_pass-pass.result)) l)) c.pipe.view_is
+    (enqueue-gave c.sharing_laws.ensures (known (Some c.take_pass-pass.result)) l p ask backlog _ r (subst (λ o. KnowsShared (known o) p) c.take_pass-pass.ensures (subst (KnowsShared (known c.args.self.now)) (sym c.pipe.view_is) c.requires.pipe)) c.enqueue-pass.ensures.turn))
 
 pub returns-clause-allowed : goal.returns-clause-allowed
 returns-clause-allowed g c =
-    let at_hand : c.args.self.now ≡ Some c.unwrap-pass.result = sym c.self.view_is ∙ (sym c.take.ensures.value ∙ c.unwrap-pass.ensures) in
     let ask = arc_value c.args.job.ask in
     let r = c.enqueue-pass.result.1 in
-    subst (λ o. MatchResult r (λ _. IsAllowed ask_size (known o).seen (known o).number ask) (λ e. (e ≡ TooBig) ↔ (IsAllowed ask_size (known o).seen (known o).number ask → ⊥))) (sym at_hand)
-    (by-allowance r _ _ (enqueue-refused c.sharing_laws.ensures.laws (known (Some c.unwrap-pass.result)) (known (Some c.enqueue-pass.result.0)) ask r _ _ c.enqueue-pass.ensures.turn))
+    subst (λ o. MatchResult r (λ _. IsAllowed ask_size (known o).seen (known o).number ask) (λ e. (e ≡ TooBig) ↔ (IsAllowed ask_size (known o).seen (known o).number ask → ⊥))) (sym c.take_pass-pass.ensures)
+    (by-allowance r _ _ (enqueue-refused c.sharing_laws.ensures.laws (known (Some c.take_pass-pass.result)) (known (Some c.enqueue-pass.result.0)) ask r _ _ c.enqueue-pass.ensures.turn))
 
 pub returns-clause-served : goal.returns-clause-served
 returns-clause-served g c =
     let r = c.enqueue-pass.result.1 in
-    not-unserved r _ _ (enqueue-refused c.sharing_laws.ensures.laws (known (Some c.unwrap-pass.result)) (known (Some c.enqueue-pass.result.0)) (arc_value c.args.job.ask) r _ _ c.enqueue-pass.ensures.turn)
+    not-unserved r _ _ (enqueue-refused c.sharing_laws.ensures.laws (known (Some c.take_pass-pass.result)) (known (Some c.enqueue-pass.result.0)) (arc_value c.args.job.ask) r _ _ c.enqueue-pass.ensures.turn)

@@ -2,23 +2,21 @@ use Rattle.std.proofs.Common.{◌≡◌, Some, sym, refl, ◌∙◌, subst}
 use Rattle.board.specs.Alone.{PeersGone}
 use Rattle.dialogues.specs.ScriptState.{PipelineState}
 use Rattle.recorded_calls.specs.Passes.{known}
-use Rattle.recorded_calls.specs.Sharing.{KnowsLent, KnowsGathered, Beside}
+use Rattle.recorded_calls.specs.SharedCalls.{KnowsLent, KnowsGathered, Beside}
 use Rattle.recorded_calls.proofs.Gathers.{leaves-beside, gather-knows}
 use Rattle.recorded_calls.proofs.board_caller.BoardCaller.gather.Goals as goal
 
 pub returns-in_err-lines-clause-beside : goal.returns-in_err-lines-clause-beside
 returns-in_err-lines-clause-beside g c =
-    let at_hand : c.args.self.now ≡ Some c.unwrap-pass.result = sym c.self.view_is ∙ (sym c.take.ensures.value ∙ c.unwrap-pass.ensures) in
     let after = known (Some c.asks-pass.result.0) in
-    subst (λ o. Beside (known o) after) (sym at_hand)
-    (leaves-beside c.sharing_laws.ensures (known (Some c.unwrap-pass.result)) after (subst (λ o. PeersGone (known o)) at_hand c.requires.gone) c.asks-pass.ensures.turn)
+    subst (λ o. Beside (known o) after) (sym c.take_pass-pass.ensures)
+    (leaves-beside c.sharing_laws.ensures (known (Some c.take_pass-pass.result)) after (subst (λ o. PeersGone (known o)) c.take_pass-pass.ensures c.requires.gone) c.asks-pass.ensures.turn)
 
 pub returns-clause-beside : goal.returns-clause-beside
 returns-clause-beside g c =
-    let at_hand : c.args.self.now ≡ Some c.unwrap-pass.result = sym c.self.view_is ∙ (sym c.take.ensures.value ∙ c.unwrap-pass.ensures) in
     let after = known (Some c.asks-pass.result.0) in
-    subst (λ o. Beside (known o) after) (sym at_hand)
-    (leaves-beside c.sharing_laws.ensures (known (Some c.unwrap-pass.result)) after (subst (λ o. PeersGone (known o)) at_hand c.requires.gone) c.asks-pass.ensures.turn)
+    subst (λ o. Beside (known o) after) (sym c.take_pass-pass.ensures)
+    (leaves-beside c.sharing_laws.ensures (known (Some c.take_pass-pass.result)) after (subst (λ o. PeersGone (known o)) c.take_pass-pass.ensures c.requires.gone) c.asks-pass.ensures.turn)
 
 pub returns-clause-gathered : goal.returns-clause-gathered
 returns-clause-gathered g c =

@@ -13,43 +13,39 @@ use Rattle.recorded_calls.proofs.board_caller.BoardCaller.submit.Goals as goal
 
 pub submit-pass-requires-clause-caller : goal.submit-pass-requires-clause-caller
 submit-pass-requires-clause-caller g c κs within =
-    let at_hand : c.args.self.now ≡ Some c.unwrap-pass.result = sym c.self.view_is ∙ (sym c.take.ensures.value ∙ c.unwrap-pass.ensures) in
     let i = c.pipe.inside in
     let p : PipelineState = record { number = i.number; bound = i.bound; held = i.held; mask_is_empty = i.mask_is_empty; lines = i.lines; delivered = i.delivered } in
-    let on = subst (λ o. KnowsPipe (known o) p) at_hand (subst (KnowsPipe (known c.args.self.now)) (sym c.pipe.view_is) c.requires.pipe) in
+    let on = subst (λ o. KnowsPipe (known o) p) c.take_pass-pass.ensures (subst (KnowsPipe (known c.args.self.now)) (sym c.pipe.view_is) c.requires.pipe) in
     (on.managed.0, inl on.managed.1)
 
 pub returns-clause-submitted : goal.returns-clause-submitted
 returns-clause-submitted g c =
-    let at_hand : c.args.self.now ≡ Some c.unwrap-pass.result = sym c.self.view_is ∙ (sym c.take.ensures.value ∙ c.unwrap-pass.ensures) in
     let i = c.pipe.inside in
     let p : PipelineState = record { number = i.number; bound = i.bound; held = i.held; mask_is_empty = i.mask_is_empty; lines = i.lines; delivered = i.delivered } in
     let laws = c.board_laws.ensures in
     let ask = arc_value c.args.job.ask in
-    subst (λ o. MatchResult c.submit-pass.result.1 (λ number. Changed (known o) (known (Some c.submit-pass.result.0)) c.args.pipe.now (with_ask c.args.pipe.now ask) (Submits c.args.pipe.now.number number (asked_by ask) ∷ []) (ask ∷ [])) (λ _. Unchanged (known o) (known (Some c.submit-pass.result.0)))) (sym at_hand)
-    (subst (λ (p : PipelineState). MatchResult c.submit-pass.result.1 (λ number. Changed (known (Some c.unwrap-pass.result)) (known (Some c.submit-pass.result.0)) p (with_ask p ask) (Submits p.number number (asked_by ask) ∷ []) (ask ∷ [])) (λ _. Unchanged (known (Some c.unwrap-pass.result)) (known (Some c.submit-pass.result.0)))) c.pipe.view_is
-    (submit-changed laws (known (Some c.unwrap-pass.result)) (known (Some c.submit-pass.result.0)) p ask c.submit-pass.result.1 (subst (λ o. KnowsPipe (known o) p) at_hand (subst (KnowsPipe (known c.args.self.now)) (sym c.pipe.view_is) c.requires.pipe)) c.submit-pass.ensures.turn))
+    subst (λ o. MatchResult c.submit-pass.result.1 (λ number. Changed (known o) (known (Some c.submit-pass.result.0)) c.args.pipe.now (with_ask c.args.pipe.now ask) (Submits c.args.pipe.now.number number (asked_by ask) ∷ []) (ask ∷ [])) (λ _. Unchanged (known o) (known (Some c.submit-pass.result.0)))) (sym c.take_pass-pass.ensures)
+    (subst (λ (p : PipelineState). MatchResult c.submit-pass.result.1 (λ number. Changed (known (Some c.take_pass-pass.result)) (known (Some c.submit-pass.result.0)) p (with_ask p ask) (Submits p.number number (asked_by ask) ∷ []) (ask ∷ [])) (λ _. Unchanged (known (Some c.take_pass-pass.result)) (known (Some c.submit-pass.result.0)))) c.pipe.view_is
+    (submit-changed laws (known (Some c.take_pass-pass.result)) (known (Some c.submit-pass.result.0)) p ask c.submit-pass.result.1 (subst (λ o. KnowsPipe (known o) p) c.take_pass-pass.ensures (subst (KnowsPipe (known c.args.self.now)) (sym c.pipe.view_is) c.requires.pipe)) c.submit-pass.ensures.turn))
 
 pub returns-clause-allowed : goal.returns-clause-allowed
 returns-clause-allowed g c =
-    let at_hand : c.args.self.now ≡ Some c.unwrap-pass.result = sym c.self.view_is ∙ (sym c.take.ensures.value ∙ c.unwrap-pass.ensures) in
     let i = c.pipe.inside in
     let p : PipelineState = record { number = i.number; bound = i.bound; held = i.held; mask_is_empty = i.mask_is_empty; lines = i.lines; delivered = i.delivered } in
-    let on = subst (λ o. KnowsPipe (known o) p) at_hand (subst (KnowsPipe (known c.args.self.now)) (sym c.pipe.view_is) c.requires.pipe) in
+    let on = subst (λ o. KnowsPipe (known o) p) c.take_pass-pass.ensures (subst (KnowsPipe (known c.args.self.now)) (sym c.pipe.view_is) c.requires.pipe) in
     let pad = subst (λ (x : PipelineState). IsPad x.bound) (sym c.pipe.view_is) c.requires.pad in
     let manned = subst (λ (x : PipelineState). x.mask_is_empty ≡ false) (sym c.pipe.view_is) c.requires.manned in
     let ask = arc_value c.args.job.ask in
     let r = c.submit-pass.result.1 in
-    subst (λ o. MatchResult r (λ _. IsAllowed ask_size (known o).seen (known o).number ask) (λ e. (e ≡ TooBig) ↔ (IsAllowed ask_size (known o).seen (known o).number ask → ⊥))) (sym at_hand)
-    (by-allowance r _ _ (submit-refused c.board_laws.ensures (known (Some c.unwrap-pass.result)) (known (Some c.submit-pass.result.0)) p ask r _ on pad manned c.submit-pass.ensures.turn))
+    subst (λ o. MatchResult r (λ _. IsAllowed ask_size (known o).seen (known o).number ask) (λ e. (e ≡ TooBig) ↔ (IsAllowed ask_size (known o).seen (known o).number ask → ⊥))) (sym c.take_pass-pass.ensures)
+    (by-allowance r _ _ (submit-refused c.board_laws.ensures (known (Some c.take_pass-pass.result)) (known (Some c.submit-pass.result.0)) p ask r _ on pad manned c.submit-pass.ensures.turn))
 
 pub returns-clause-served : goal.returns-clause-served
 returns-clause-served g c =
-    let at_hand : c.args.self.now ≡ Some c.unwrap-pass.result = sym c.self.view_is ∙ (sym c.take.ensures.value ∙ c.unwrap-pass.ensures) in
     let i = c.pipe.inside in
     let p : PipelineState = record { number = i.number; bound = i.bound; held = i.held; mask_is_empty = i.mask_is_empty; lines = i.lines; delivered = i.delivered } in
-    let on = subst (λ o. KnowsPipe (known o) p) at_hand (subst (KnowsPipe (known c.args.self.now)) (sym c.pipe.view_is) c.requires.pipe) in
+    let on = subst (λ o. KnowsPipe (known o) p) c.take_pass-pass.ensures (subst (KnowsPipe (known c.args.self.now)) (sym c.pipe.view_is) c.requires.pipe) in
     let pad = subst (λ (x : PipelineState). IsPad x.bound) (sym c.pipe.view_is) c.requires.pad in
     let manned = subst (λ (x : PipelineState). x.mask_is_empty ≡ false) (sym c.pipe.view_is) c.requires.manned in
     let r = c.submit-pass.result.1 in
-    not-unserved r _ _ (submit-refused c.board_laws.ensures (known (Some c.unwrap-pass.result)) (known (Some c.submit-pass.result.0)) p (arc_value c.args.job.ask) r _ on pad manned c.submit-pass.ensures.turn)
+    not-unserved r _ _ (submit-refused c.board_laws.ensures (known (Some c.take_pass-pass.result)) (known (Some c.submit-pass.result.0)) p (arc_value c.args.job.ask) r _ on pad manned c.submit-pass.ensures.turn)

@@ -5,6 +5,5 @@ use Rattle.recorded_calls.proofs.registry_caller.RegistryCaller.resolve.Goals as
 
 pub returns : goal.returns
 returns g c =
-    let at_hand : c.args.self.now ≡ Some c.unwrap-pass.result = sym c.self.view_is ∙ (sym c.take.ensures.value ∙ c.unwrap-pass.ensures) in
-    resolved c.call_laws.ensures c.args.self.now c.unwrap-pass.result c.resolve-pass.result.0 _ (spelling c.args.name.now) c.resolve-pass.result.1 c.found.result at_hand c.requires.at c.resolve-pass.ensures.lock
+    resolved c.call_laws.ensures c.args.self.now c.take_pass-pass.result c.resolve-pass.result.0 _ (spelling c.args.name.now) c.resolve-pass.result.1 c.found.result c.take_pass-pass.ensures c.requires.at c.resolve-pass.ensures.lock
     c.requires.caller c.resolve-pass.ensures.looked c.found.ensures
