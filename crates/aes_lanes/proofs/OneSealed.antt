@@ -111,7 +111,8 @@ pub one_begun : (r : ℕ) (ws : List (List ℕ)) (b key sum y : List ℕ) → Is
     → ordered 0 y ≡ after_rounds (key_schedule (key_of r ws)) b 0
 one_begun r ws b key sum y h long k e f = f ∙ e ∙ ap (zip2 bit_xor b) k ∙ plain_key ws 0 b long ∙ first_key r ws b h
 
--- a state that ShiftRows, done once for each round before, puts in order is there for the next round when it was done once more
+-- a state that ShiftRows, done once for each round before, puts in order is there for the next round when it was done
+-- once more
 next_order : (i : ℕ) (s : List ℕ) → 1 ≤ i → iterate shift_rows i s ≡ shift_rows (iterate shift_rows (i - 1) s)
 next_order i s from =
     let next : i ≡ suc (i - 1) = omega arith in

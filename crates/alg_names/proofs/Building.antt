@@ -4,7 +4,7 @@ use Rattle.std.proofs.lemmas.List.{take_more, take-append-drop}
 use Rattle.alg_names.specs.Name.{Tree, Args, node, end, arg, IsName, IsAllowed, depth, width, spelling}
 use Rattle.alg_names.specs.Reader.{Place, begins, in_word, closed, Reading, lost, reading, step, run, start, reach, wide, IsFine, IsNarrow, Reaches, HasRead, here}
 use Rattle.alg_names.specs.Refusal.{IsRefusedFor, IsReadAs, IsNotDeep}
-use Rattle.alg_names.specs.Drafting.{StopsAt}
+use Rattle.alg_names.specs.Drafts.{StopsAt}
 use Rattle.alg_names.specs.declared.name_errors.NameErr.{NameErr}
 use Rattle.alg_names.specs.declared.name_errors.NameErr.TheVariants.{TooLong, Bad, TooDeep, TooMany, Memory}
 use Rattle.alg_names.proofs.Complete.{place_behind, run_append, run_lost, run_name, one_tree}

@@ -5,7 +5,7 @@ use Rattle.alg_names.specs.Name.{Tree, Args, node, end, arg, count, width, wides
 use Rattle.alg_names.specs.Built.{args_from}
 use Rattle.alg_names.specs.Reader.{joined, reading, lost, closed, begins, in_word, behind_name, opened, wide, wide_open, IsFine, Reaches}
 use Rattle.alg_names.specs.declared.draft.Template.{Template}
-use Rattle.alg_names.specs.Drafting.{frame_of, frames, StopsAt}
+use Rattle.alg_names.specs.Drafts.{frame_of, frames, StopsAt}
 use Rattle.alg_names.specs.declared.name_errors.NameErr.{NameErr}
 use Rattle.alg_names.specs.declared.name_errors.NameErr.TheVariants.{TooMany, Memory}
 use Rattle.std.proofs.lemmas.Bool.{eqb-true}

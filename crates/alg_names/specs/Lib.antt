@@ -3,6 +3,6 @@ pub mod Code
 pub mod Built
 pub mod Reader
 pub mod Scan
-pub mod Drafting
+pub mod Drafts
 pub mod Refusal
 pub mod Spelled

@@ -2,7 +2,7 @@
 ghost use Rattle.std.specs.Prelude.{◌≡◌, ◌<◌, ◌≤◌, ◌⊎◌, IfOk, IfErr};
 ghost use Rattle.alg_names.specs.Name.{arg, end, count, width};
 ghost use Rattle.alg_names.specs.Reader.{joined, behind_name, wide_open, step, reading, in_word, IsFine, IsNarrow};
-ghost use Rattle.alg_names.specs.Drafting.{frame_of, frames, reading_of, StopsAt};
+ghost use Rattle.alg_names.specs.Drafts.{frame_of, frames, reading_of, StopsAt};
 ghost use Rattle.alg_names.specs.declared.name_errors.NameErr.TheVariants.{TooMany, Memory};
 
 use crate::grammar::is_in_word;

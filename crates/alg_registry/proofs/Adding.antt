@@ -9,7 +9,7 @@ use Rattle.alg_registry.specs.declared.spec.Spec.{Spec}
 use Rattle.alg_registry.specs.declared.row.Row.{Row}
 use Rattle.alg_registry.specs.Calls.{new_row, listed_row_of}
 use Rattle.alg_registry.specs.Rows.{is_held, stands_on, holders, listed_at, stays_listed, standing}
-use Rattle.alg_registry.specs.Counting.{referred}
+use Rattle.alg_registry.specs.MarkCounts.{referred}
 use Rattle.alg_registry.specs.Held.{held_from, listed_from}
 use Rattle.alg_registry.proofs.Standing.{bare, map-push}
 use Rattle.alg_registry.proofs.Restanding.{Stands, mark, same_stays, same_push, same_length, stands-from, standing-stands, standing-bare, weight, holders-cons, held_listed}

@@ -10,7 +10,7 @@ use Rattle.alg_registry.specs.declared.spec.Wrap.TheVariants.{Plain}
 use Rattle.alg_registry.specs.Rows.{is_held, stands_on, listed_at, stays_listed, marked, counted, standing}
 use Rattle.alg_registry.specs.Alone.{unlists_alone, puts_alone}
 use Rattle.alg_registry.specs.Calls.{unlisted_row, taken_row, put_row_of}
-use Rattle.alg_registry.specs.Counting.{remarked_all, restood}
+use Rattle.alg_registry.specs.MarkCounts.{remarked_all, restood}
 use Rattle.alg_registry.specs.Held.{held_from, listed_from, is_row_listed, passes, IsRowTable}
 use Rattle.alg_registry.proofs.Fresh.{is_listed-within}
 use Rattle.alg_registry.proofs.Restanding.{Stands, standing-twice, any_default, listed_at-get, unlist-alone, take-alone, put-alone, stands-from, stands-at, held_listed, held_referenced}

@@ -13,7 +13,7 @@ use Rattle.alg_registry.specs.declared.entry.RegEntry.TheVariants.{Look}
 use Rattle.alg_registry.specs.Rows.{texts, rows_of, larvals_of, larval_at, registered}
 use Rattle.alg_registry.specs.Answers.{look_answer, found_driver, found_best, not_found, is_pending, is_template, may_find, best_from}
 use Rattle.alg_registry.specs.Legal.{IsRight}
-use Rattle.alg_registry.specs.Naming.{LooksName, EndsName}
+use Rattle.alg_registry.specs.NamedAnswers.{LooksName, EndsName}
 use Rattle.alg_registry.proofs.Existing.{outcome_exists, registered_grow}
 use Rattle.alg_registry.proofs.Fresh.{length-rows_of, is_listed-within}
 use Rattle.alg_registry.proofs.Histories.{text_more}

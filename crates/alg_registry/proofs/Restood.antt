@@ -8,7 +8,7 @@ use Rattle.std.proofs.lemmas.Bool.Decides.{nat_tests}
 use Rattle.std.proofs.lemmas.Bool.{and_from, and_parts}
 use Rattle.alg_registry.specs.declared.row.Row.{Row}
 use Rattle.alg_registry.specs.Rows.{is_held, stands_on, holders, listed_at, stays_listed, counted_first, counted, standing}
-use Rattle.alg_registry.specs.Counting.{remarked, remarked_by, remarked_at, remarked_all, gave, gave_all, restood}
+use Rattle.alg_registry.specs.MarkCounts.{remarked, remarked_by, remarked_at, remarked_all, gave, gave_all, restood}
 use Rattle.alg_registry.specs.Held.{ids_of, held_from, is_row_listed, passes}
 use Rattle.alg_registry.proofs.Restanding.{Stands, mark, same_stays, same_push, stands-from, marks, marked-marks, weight, holders-cons, held_listed}
 use Rattle.alg_registry.proofs.Tallies.{HasFewer, uncounted, tallied, tallied-none, tally, gave-tally, skip-tally}

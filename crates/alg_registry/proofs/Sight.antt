@@ -19,7 +19,7 @@ use Rattle.kc_base.specs.declared.error_numbers.Errno.TheVariants.{EAGAIN}
 use Rattle.alg_registry.specs.Answers.{built_answer, joined_or_built, driver_place}
 use Rattle.alg_registry.specs.Legal.{MayEnd}
 use Rattle.alg_registry.specs.Kept.{IsKept}
-use Rattle.alg_registry.specs.Counting.{referred}
+use Rattle.alg_registry.specs.MarkCounts.{referred}
 use Rattle.alg_registry.specs.Larvals.{entry_of, ends_with_entry, is_seen_end, is_seen, seen_from, seen_after, passes_at}
 use Rattle.alg_registry.proofs.Fresh.{length-rows_of}
 use Rattle.alg_registry.proofs.Existing.{id_of, ends_exist}

@@ -9,7 +9,7 @@ use Rattle.std.proofs.lemmas.Bool.Decides.{nat_tests}
 use Rattle.std.proofs.lemmas.Bool.{or_from}
 use Rattle.alg_registry.specs.declared.row.Row.{Row}
 use Rattle.alg_registry.specs.Rows.{is_held, stands_on, holders, counted}
-use Rattle.alg_registry.specs.Counting.{referred, referred_by, gave, gave_all}
+use Rattle.alg_registry.specs.MarkCounts.{referred, referred_by, gave, gave_all}
 use Rattle.alg_registry.proofs.Restanding.{weight, holders-cons}
 
 abbrev pub bit : Bool → ℕ

@@ -10,7 +10,7 @@ pub mod Kept
 pub mod Made
 pub mod Trial
 pub mod Alone
-pub mod Counting
+pub mod MarkCounts
 pub mod Held
 pub mod OwnCalls
-pub mod Naming
+pub mod NamedAnswers

@@ -3,7 +3,7 @@
 ghost use Rattle.alg_registry.specs.Legal.{LegalReg};
 ghost use Rattle.alg_registry.specs.Lifetimes.{NeverHandedOutAgain, HeldWhileReferenced, HeldByCaller, HeldFromGetToPut, ListedIs, ReferencesAre, BestAnswers, BestIsGreatest};
 ghost use Rattle.alg_registry.specs.Made.{Made};
-ghost use Rattle.alg_registry.specs.Naming.{LooksName, EndsName};
+ghost use Rattle.alg_registry.specs.NamedAnswers.{LooksName, EndsName};
 ghost use Rattle.alg_registry.specs.OwnCalls.{AllStays, BuildingIsOwn, OpenIsClaimed, LooksAreOwn, ReferencesAreOwn, AllHaveEnded, AllHaveEndedFor};
 ghost use Rattle.alg_registry.specs.Trial.{run, after_unlist, asked_by_worker, claimed_early, began_again, claimed_twice, found_another, ended_by_another, built_again, refused_reference, found_after_unlist, two_templates, wrong_child, too_early};
 

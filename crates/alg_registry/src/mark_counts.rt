@@ -4,7 +4,7 @@ ghost use Rattle.std.specs.Prelude.{◌≡◌, ℕ, ◌+◌, ◌-◌, ◌^◌, �
 ghost use Rattle.std.specs.List.{list_any, list_all};
 ghost use Rattle.alg_registry.specs.declared.row.Row.{Row};
 ghost use Rattle.alg_registry.specs.Rows.{is_held, listed_at};
-ghost use Rattle.alg_registry.specs.Counting.{remarked_at, remarked_all, referred, gave, gave_all, restood};
+ghost use Rattle.alg_registry.specs.MarkCounts.{remarked_at, remarked_all, referred, gave, gave_all, restood};
 
 use crate::row::Row;
 

@@ -15,7 +15,7 @@ use Rattle.board.specs.Kept.{shape_of, IsKeptPipe}
 
 serial_shape : {J O : Type 0} (s : Stage J O) (lists : ℕ) → is_serial (shape_of s lists) ≡ is_queue s
 serial_shape (stage.Pad pad) lists = refl
-serial_shape (stage.Queue line) lists = refl
+serial_shape (stage.Queue server) lists = refl
 serial_shape (stage.Chain c) lists = refl
 
 pub queue_shape : {J O : Type 0} (s t : Stage J O) → ((lists : ℕ) → shape_of s lists ≡ shape_of t lists) → is_queue s ≡ is_queue t

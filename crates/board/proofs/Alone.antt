@@ -9,7 +9,7 @@ use Rattle.board.specs.declared.entry.BoardEntry.{BoardEntry}
 use Rattle.board.specs.declared.entry.BoardEntry.TheVariants.{Born, Submit, Take, Finish, Enq, Deq, Done, Hold, Go, Collect, Close, Share, Mask, Shut}
 use Rattle.board.specs.Entries.{caller_of}
 use Rattle.board.specs.Legal.{IsNoWorker, IsRight, AreRightAfter}
-use Rattle.board.specs.Staying.{is_work}
+use Rattle.board.specs.PipelineHistory.{is_work}
 use Rattle.board.specs.Alone.{IsGone, PeersAreGone, PeersStayGone, WorkersAreLeft, WorkAlone}
 
 no_worker : (n : ℕ) → 1 ≤ n → n ≤ 16 → IsNoWorker n → ⊥

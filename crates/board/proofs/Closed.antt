@@ -4,11 +4,11 @@ use Rattle.std.specs.Prelude.{if◌then◌else◌}
 use Rattle.turn_lock.specs.Turns.{Each}
 use Rattle.board.specs.declared.entry.BoardEntry.{BoardEntry}
 use Rattle.board.specs.declared.entry.BoardEntry.TheVariants.{Born, Submit, Take, Finish, Enq, Deq, Done, Hold, Go, Collect, Close, Share, Mask, Shut}
-use Rattle.board.specs.Shapes.{line_born}
+use Rattle.board.specs.Shapes.{has_queue_born}
 use Rattle.board.specs.Entries.{Notice, is_of, entries_of, accepted_in, submissions, finished_in, unbroken, front, waiting, birth, is_closed, caller_of, AllTaken}
 use Rattle.board.specs.Legal.{IsNoWorker, IsRightFor, MayManage}
 use Rattle.board.specs.Order.{AreRightForAfter, handed_in}
-use Rattle.board.specs.Staying.{is_work}
+use Rattle.board.specs.PipelineHistory.{is_work}
 use Rattle.board.specs.Ends.{AllIsFinished}
 use Rattle.board.proofs.Lists.{filter_map-none}
 use Rattle.board.proofs.Transfer.{each_right}
@@ -62,12 +62,12 @@ module _ {A : Type 0} where
   pub closed_end : (es : List (BoardEntry A)) → AreRightForAfter [] es → IsEnd es
   closed_end es r = closed-on [] es [] orderly_start (λ shut. absurd cc) r
 
-  -- of a closed pipeline each number past the line was taken, and none waits in the line
+  -- of a closed pipeline each number past the queue was taken, and none waits in the queue
   pub ended_taken : (es : List (BoardEntry A)) → AreRightForAfter [] es → is_closed es ≡ true → AllTaken es
   ended_taken es r shut n low none = takes_all es n (taken_run [] es (λ n h. cc) r) (orderly es r).numbered (closed_end es r shut) low none
 
-  pub ended_line : (es : List (BoardEntry A)) → AreRightForAfter [] es → is_closed es ≡ true → line_born (birth es) ≡ true → waiting es ≡ 0
-  ended_line es r shut line = none_over (waiting es) (λ w. passes_all es (orderly es r).numbered (closed_end es r shut) line w)
+  pub ended_server : (es : List (BoardEntry A)) → AreRightForAfter [] es → is_closed es ≡ true → has_queue_born (birth es) ≡ true → waiting es ≡ 0
+  ended_server es r shut server = none_over (waiting es) (λ w. passes_all es (orderly es r).numbered (closed_end es r shut) server w)
 
   -- who made it, where one caller alone makes pipelines
   made-by : (caller : ℕ) (e : BoardEntry A) (es : List (BoardEntry A)) → IsRightFor [] e → (caller_of e ≡ caller) ⊎ (is_work e ≡ true) → MayManage (e ∷ es) caller

@@ -13,17 +13,17 @@ use Rattle.board.specs.declared.entry.Entered.{Entered}
 use Rattle.board.specs.declared.entry.Entered.TheVariants.{InProgress, Busy, NoSpace}
 use Rattle.board.specs.declared.entry.BoardEntry.{BoardEntry}
 use Rattle.board.specs.declared.entry.BoardEntry.TheVariants.{Born, Submit, Take, Finish, Enq, Deq, Done, Hold, Go, Collect, Close, Share, Mask, Shut}
-use Rattle.board.specs.Shapes.{line_born, pad_born}
+use Rattle.board.specs.Shapes.{has_queue_born, pad_born}
 use Rattle.board.specs.Entries.{Notice, Starts, Completes, is_of, entries_of, birth_in, birth, first, accepted_in, submissions, dequeued_in, dequeues, dequeued, passed_on, finished_in, finished, has, front, completes_from, tells, told, collected, callback_of}
 use Rattle.board.specs.Legal.{IsRightFor}
 use Rattle.board.specs.Order.{handed_in, handed_after, handed_out, AreRightForAfter, completed_in, completed}
-use Rattle.board.specs.Staying.{Joins, LeavesOthers, BeginsAlone, IsDrained}
-use Rattle.board.specs.Handing.{is_collect, HandsNothing, HandsOutAtMost, completions, CollectHandsOut, AllHandedOutIsDrained}
+use Rattle.board.specs.PipelineHistory.{Joins, LeavesOthers, BeginsAlone, IsDrained}
+use Rattle.board.specs.HandedOut.{is_collect, HandsNothing, HandsOutAtMost, completions, CollectHandsOut, AllHandedOutIsDrained}
 use Rattle.board.proofs.Transfer.{before_last, entries-more, entries-same, each_right}
 use Rattle.board.proofs.Lists.{filter_map-none, filter_map-some, length-numbers}
 use Rattle.board.proofs.Fronts.{unbroken-le, front_grows, completes_on}
 use Rattle.board.proofs.Keeping.{IsOrderly, orderly_start, orderly_step, orderly, passed-le, told-more, front-same, front-accepted}
-use Rattle.board.proofs.Starting.{front_passed, pad_no_line}
+use Rattle.board.proofs.Starting.{front_passed, pad_no_queue}
 use Rattle.board.proofs.Handing.{handed_below}
 use Rattle.board.proofs.KeptEntering.{completed_low}
 use Rattle.board.proofs.Staying.{last_right}
@@ -126,7 +126,7 @@ most_handed_out h p legal =
 abbrev EndsDone : List Notice → Type 0
 EndsDone ns = (ns ≡ []) ⊎ ((ms : List Notice) × (n : ℕ) × (ns ≡ ms ++ Completes n ∷ []))
 
--- what a pipeline told of which all that is past the line is finished
+-- what a pipeline told of which all that is past the queue is finished
 abbrev IsEnding : {A : Type 0} → List (BoardEntry A) → Type 0
 IsEnding es = front es ≡ passed_on es → EndsDone (told es)
 
@@ -144,7 +144,7 @@ ending_quiet es e o b a d f t all =
     let pass : passed_on (es ++ e ∷ []) ≡ passed_on es = rw (be, deqs, subs) refl in
     subst EndsDone (sym (told_left es e t)) (o (sym (front-same es e a f) ∙ (all ∙ pass)))
 
-ending_accepted : {A : Type 0} (es : List (BoardEntry A)) (e : BoardEntry A) (a : A) (given : List Notice) → IsEnding es → IsOrderly es given → line_born (birth es) ≡ true → birth_in e ≡ None → accepted_in e ≡ Some a → dequeued_in e ≡ None → finished_in e ≡ None → tells es e ≡ [] → IsEnding (es ++ e ∷ [])
+ending_accepted : {A : Type 0} (es : List (BoardEntry A)) (e : BoardEntry A) (a : A) (given : List Notice) → IsEnding es → IsOrderly es given → has_queue_born (birth es) ≡ true → birth_in e ≡ None → accepted_in e ≡ Some a → dequeued_in e ≡ None → finished_in e ≡ None → tells es e ≡ [] → IsEnding (es ++ e ∷ [])
 ending_accepted es e a given o v l b ac d f t all =
     let be = birth_left es e b in
     let deqs : dequeues (es ++ e ∷ []) ≡ dequeues es = filter_map-none dequeued_in es e d in
@@ -155,21 +155,21 @@ ending_submit : {A : Type 0} (es : List (BoardEntry A)) (caller pipe number : �
 ending_submit {A} es caller pipe number ask given v p all =
     let e : BoardEntry A = Submit caller pipe number ask in
     let be = birth_left es e refl in
-    let none = pad_no_line (birth es) p in
+    let none = pad_no_queue (birth es) p in
     let subs : length (submissions (es ++ e ∷ [])) ≡ length (submissions es) + 1 = ap length (filter_map-some accepted_in es e (arc_value ask) refl) ∙ length-append (submissions es) (arc_value ask ∷ []) in
     let now : passed_on es ≡ length (submissions es) = ap (λ c. cond c (dequeued es) (length (submissions es))) none in
-    let then : passed_on (es ++ e ∷ []) ≡ length (submissions (es ++ e ∷ [])) = ap (λ c. cond c (dequeued (es ++ e ∷ [])) (length (submissions (es ++ e ∷ [])))) (ap line_born be ∙ none) in
+    let then : passed_on (es ++ e ∷ []) ≡ length (submissions (es ++ e ∷ [])) = ap (λ c. cond c (dequeued (es ++ e ∷ [])) (length (submissions (es ++ e ∷ [])))) (ap has_queue_born be ∙ none) in
     let f = front-accepted es e (arc_value ask) v.numbered refl refl in
     let l = front_passed es v.numbered in
     absurd (omega arith)
 
-ending_deq : {A : Type 0} (es : List (BoardEntry A)) (caller pipe number : ℕ) (started : Option ℕ) (given : List Notice) → IsOrderly es given → line_born (birth es) ≡ true → IsEnding (es ++ Deq caller pipe number started ∷ [])
-ending_deq {A} es caller pipe number started given v line all =
+ending_deq : {A : Type 0} (es : List (BoardEntry A)) (caller pipe number : ℕ) (started : Option ℕ) (given : List Notice) → IsOrderly es given → has_queue_born (birth es) ≡ true → IsEnding (es ++ Deq caller pipe number started ∷ [])
+ending_deq {A} es caller pipe number started given v server all =
     let e : BoardEntry A = Deq caller pipe number started in
     let be = birth_left es e refl in
     let deqs : dequeued (es ++ e ∷ []) ≡ dequeued es + 1 = ap length (filter_map-some dequeued_in es e (number, caller) refl) ∙ length-append (dequeues es) ((number, caller) ∷ []) in
-    let now : passed_on es ≡ dequeued es = ap (λ c. cond c (dequeued es) (length (submissions es))) line in
-    let then : passed_on (es ++ e ∷ []) ≡ dequeued (es ++ e ∷ []) = ap (λ c. cond c (dequeued (es ++ e ∷ [])) (length (submissions (es ++ e ∷ [])))) (ap line_born be ∙ line) in
+    let now : passed_on es ≡ dequeued es = ap (λ c. cond c (dequeued es) (length (submissions es))) server in
+    let then : passed_on (es ++ e ∷ []) ≡ dequeued (es ++ e ∷ []) = ap (λ c. cond c (dequeued (es ++ e ∷ [])) (length (submissions (es ++ e ∷ [])))) (ap has_queue_born be ∙ server) in
     let f = front-same es e refl refl in
     let l = front_passed es v.numbered in
     absurd (omega arith)
@@ -190,7 +190,7 @@ ending_finish {A} es caller pipe number o all =
     let g = front_grows es e in
     subst EndsDone (sym (told-more es e)) (many_done (told es) (front es) (front (es ++ e ∷ []) - front es) (λ z. o (let q : front es ≡ passed_on es = omega arith in q)))
 
-ending_enq : {A : Type 0} (es : List (BoardEntry A)) (answer : Entered) (caller pipe : ℕ) (ask : Arc A Global) (backlog : Bool) (given : List Notice) → IsEnding es → IsOrderly es given → line_born (birth es) ≡ true → IsEnding (es ++ Enq caller pipe ask backlog answer ∷ [])
+ending_enq : {A : Type 0} (es : List (BoardEntry A)) (answer : Entered) (caller pipe : ℕ) (ask : Arc A Global) (backlog : Bool) (given : List Notice) → IsEnding es → IsOrderly es given → has_queue_born (birth es) ≡ true → IsEnding (es ++ Enq caller pipe ask backlog answer ∷ [])
 ending_enq es (InProgress n) caller pipe ask backlog given o v l = ending_accepted es (Enq caller pipe ask backlog (InProgress n)) (arc_value ask) given o v l refl refl refl refl refl
 ending_enq es (Busy n) caller pipe ask backlog given o v l = ending_accepted es (Enq caller pipe ask backlog (Busy n)) (arc_value ask) given o v l refl refl refl refl refl
 ending_enq es NoSpace caller pipe ask backlog given o v l = ending_quiet es (Enq caller pipe ask backlog NoSpace) o refl refl refl refl refl
@@ -240,7 +240,7 @@ all_out {A} es r all =
     let o = orderly es r in
     let b = handed_below es r in
     let l = unbroken-le (finished es) 0 (length (submissions es)) in
-    let p = passed-le es o.numbered.in_line in
+    let p = passed-le es o.numbered.queued in
     let m = front_passed es o.numbered in
     let f : front es ≡ length (submissions es) = omega arith in
     let said : length (completed (told es)) ≡ front es = ap length o.telling.said ∙ length-numbers (front es) in

@@ -7,11 +7,11 @@ use Rattle.std.proofs.lemmas.List.{map-append}
 use Rattle.std.proofs.lemmas.List.Elements.{filter-append, filter_map-append}
 use Rattle.board.specs.declared.entry.BoardEntry.{BoardEntry}
 use Rattle.board.specs.declared.entry.BoardEntry.TheVariants.{Born, Submit, Take, Finish, Enq, Deq, Done, Hold, Go, Collect, Close, Share, Mask, Shut}
-use Rattle.board.specs.Shapes.{is_pad, has_line, has_lists, is_serial, queue_born, line_born}
+use Rattle.board.specs.Shapes.{is_pad, has_queue, has_lists, is_serial, queue_born, has_queue_born}
 use Rattle.board.specs.Entries.{entries_of, birth, submissions, dequeued_in, dequeues, dequeued, passed_on, waiting, taken_in, takers, finished_in, finished, has, front}
 use Rattle.board.specs.Legal.{IsRightFor, AreRightAfter, LegalBoard}
 use Rattle.board.specs.Order.{AreRightForAfter}
-use Rattle.board.specs.Staying.{is_work}
+use Rattle.board.specs.PipelineHistory.{is_work}
 use Rattle.board.specs.Ends.{IsAllFinished, NoWorkIsRight, ShutIsLast}
 use Rattle.board.proofs.Lists.{filter_map-none, filter_map-some, has-more}
 use Rattle.board.proofs.Transfer.{entries-same, each_right}
@@ -65,8 +65,8 @@ module _ {A : Type 0} where
   taken_step es (Submit caller pipe number ask) taken r = quiet es (Submit caller pipe number ask) taken (born_some is_pad (birth es) r.1.0) refl
   taken_step es (Take caller pipe number) taken r = quiet es (Take caller pipe number) taken (born_some has_lists (birth es) r.0.0) refl
   taken_step es (Finish caller pipe number) taken r = finishes es (Finish caller pipe number) number caller taken (born_some has_lists (birth es) r.0) refl r.1
-  taken_step es (Enq caller pipe ask backlog answer) taken r = quiet es (Enq caller pipe ask backlog answer) taken (born_some has_line (birth es) r.1.0) refl
-  taken_step es (Deq caller pipe number started) taken r = quiet es (Deq caller pipe number started) taken (born_some has_line (birth es) r.0.0) refl
+  taken_step es (Enq caller pipe ask backlog answer) taken r = quiet es (Enq caller pipe ask backlog answer) taken (born_some has_queue (birth es) r.1.0) refl
+  taken_step es (Deq caller pipe number started) taken r = quiet es (Deq caller pipe number started) taken (born_some has_queue (birth es) r.0.0) refl
   taken_step es (Done caller pipe number) taken r = finishes es (Done caller pipe number) number caller taken (born_some is_serial (birth es) r.0) refl r.1
   taken_step es (Hold caller pipe) taken r = quiet es (Hold caller pipe) taken (maker_some (birth es) caller r.0.1) refl
   taken_step es (Go caller pipe) taken r = quiet es (Go caller pipe) taken (maker_some (birth es) caller r.0.1) refl
@@ -85,8 +85,8 @@ module _ {A : Type 0} where
 
   -- a number that somebody runs was accepted
   taken_low : (es : List (BoardEntry A)) (n caller : ℕ) (b : Bool) → queue_born (birth es) ≡ b → AreNumbered es → takers n es ≡ caller ∷ [] → has n (finished es) ≡ false → n < length (submissions es)
-  taken_low es n caller true q o t f = (let r = (runs_next es n caller o q t f).1 in let l = o.in_line in omega arith)
-  taken_low es n caller false q o t f = (let r = took_passed es n caller o q t in let l = passed-le es o.in_line in omega arith)
+  taken_low es n caller true q o t f = (let r = (runs_next es n caller o q t f).1 in let l = o.queued in omega arith)
+  taken_low es n caller false q o t f = (let r = took_passed es n caller o q t in let l = passed-le es o.queued in omega arith)
 
   pub ends_all : (es : List (BoardEntry A)) (n caller : ℕ) → AreNumbered es → front es ≡ length (submissions es) → takers n es ≡ caller ∷ [] → has n (finished es) ≡ false → ⊥
   ends_all es n caller o all by open_ =
@@ -94,12 +94,12 @@ module _ {A : Type 0} where
       both_ways (has n (finished es)) open_ (front_is_finished es n (omega arith))
 
   pub takes_all : (es : List (BoardEntry A)) (n : ℕ) → AreTaken es → AreNumbered es → front es ≡ length (submissions es) → n < passed_on es → takers n es ≡ [] → ⊥
-  takes_all es n taken o all low none = (let l = passed-le es o.in_line in taken n (front_is_finished es n (omega arith)) none)
+  takes_all es n taken o all low none = (let l = passed-le es o.queued in taken n (front_is_finished es n (omega arith)) none)
 
-  pub passes_all : (es : List (BoardEntry A)) → AreNumbered es → front es ≡ length (submissions es) → line_born (birth es) ≡ true → 0 < waiting es → ⊥
-  passes_all es o all line w =
+  pub passes_all : (es : List (BoardEntry A)) → AreNumbered es → front es ≡ length (submissions es) → has_queue_born (birth es) ≡ true → 0 < waiting es → ⊥
+  passes_all es o all server w =
       let f = front_passed es o in
-      let p : passed_on es ≡ dequeued es = ap (λ c. cond c (dequeued es) (length (submissions es))) line in
+      let p : passed_on es ≡ dequeued es = ap (λ c. cond c (dequeued es) (length (submissions es))) server in
       omega arith
 
   numbered : (h : List (BoardEntry A)) (p : ℕ) → LegalBoard h → AreNumbered (entries_of p h)

@@ -14,7 +14,7 @@ use Rattle.board.specs.declared.entry.Entered.{Entered}
 use Rattle.board.specs.declared.entry.Entered.TheVariants.{InProgress, Busy, NoSpace}
 use Rattle.board.specs.declared.entry.BoardEntry.{BoardEntry}
 use Rattle.board.specs.declared.entry.BoardEntry.TheVariants.{Born, Submit, Take, Finish, Enq, Deq, Done, Hold, Go, Collect, Close, Share, Mask, Shut}
-use Rattle.board.specs.Shapes.{is_born, is_serial, has_line, has_lists, is_pad, queue_born, line_born, lists_born}
+use Rattle.board.specs.Shapes.{is_born, is_serial, has_queue, has_lists, is_pad, queue_born, has_queue_born, lists_born}
 use Rattle.board.specs.Entries.{Notice, birth_in, birth, first, accepted_in, submissions, dequeued_in, dequeues, dequeued, passed_on, waiting, taken_in, takings, takers, finished_in, finished, has, unbroken, front, tells, told_after, told, collected_in, collected, last_or, maker_is}
 use Rattle.board.specs.Legal.{IsRightFor}
 use Rattle.board.specs.Order.{handed_in, handed_after, handed_out, AreRightForAfter, completed_in, completed, numbers_below}
@@ -41,12 +41,12 @@ lists_no_queue (Some (maker, shape.Pad lists)) h = refl
 lists_no_queue (Some (maker, shape.Queue max)) h = cc
 lists_no_queue (Some (maker, shape.Chain max lists)) h = refl
 
--- a queue has a line
-pub queue_has_line : (b : Option (ℕ × Shape)) → queue_born b ≡ true → line_born b ≡ true
-queue_has_line None h = cc
-queue_has_line (Some (maker, shape.Pad lists)) h = cc
-queue_has_line (Some (maker, shape.Queue max)) h = refl
-queue_has_line (Some (maker, shape.Chain max lists)) h = cc
+-- a queue has a queue
+pub has_queue_of_queue : (b : Option (ℕ × Shape)) → queue_born b ≡ true → has_queue_born b ≡ true
+has_queue_of_queue None h = cc
+has_queue_of_queue (Some (maker, shape.Pad lists)) h = cc
+has_queue_of_queue (Some (maker, shape.Queue max)) h = refl
+has_queue_of_queue (Some (maker, shape.Chain max lists)) h = cc
 
 pub not_both : (b : Bool) → b ≡ true → b ≡ false → ⊥
 not_both true h g = cc
@@ -59,12 +59,12 @@ passed_cases true d s d2 s2 h g = h
 passed_cases false d s d2 s2 h g = g
 
 pub passed_grows : {A : Type 0} (es : List (BoardEntry A)) (e : BoardEntry A) → is_some (birth es) ≡ true → passed_on es ≤ passed_on (es ++ e ∷ [])
-passed_grows es e b = rw (birth_stays es e b) (passed_cases (line_born (birth es)) (dequeued es) (length (submissions es)) (dequeued (es ++ e ∷ [])) (length (submissions (es ++ e ∷ []))) (filter_map_grows dequeued_in es e) (filter_map_grows accepted_in es e))
+passed_grows es e b = rw (birth_stays es e b) (passed_cases (has_queue_born (birth es)) (dequeued es) (length (submissions es)) (dequeued (es ++ e ∷ [])) (length (submissions (es ++ e ∷ []))) (filter_map_grows dequeued_in es e) (filter_map_grows accepted_in es e))
 
 -- what was let out, taken and finished
 pub record AreNumbered {A : Type 0} (es : List (BoardEntry A)) : Type 0 where
   pub numbers : map (λ (t : ℕ × ℕ). t.0) (dequeues es) ≡ numbers_below (dequeued es)
-  pub in_line : dequeued es ≤ length (submissions es)
+  pub queued : dequeued es ≤ length (submissions es)
   pub taken : (n : ℕ) → has n (map (λ (t : ℕ × ℕ). t.0) (filter_map taken_in es)) ≡ true → n < passed_on es
   pub done : (n : ℕ) → has n (finished es) ≡ true → n < passed_on es
   pub serial : queue_born (birth es) ≡ true → finished es ≡ numbers_below (length (finished es))
@@ -76,7 +76,7 @@ passed_le_cases true d s h = h
 passed_le_cases false d s h = omega arith
 
 pub passed-le : {A : Type 0} (es : List (BoardEntry A)) → dequeued es ≤ length (submissions es) → passed_on es ≤ length (submissions es)
-passed-le es h = passed_le_cases (line_born (birth es)) (dequeued es) (length (submissions es)) h
+passed-le es h = passed_le_cases (has_queue_born (birth es)) (dequeued es) (length (submissions es)) h
 
 -- an entry that neither lets out, takes nor finishes
 numbered_quiet : {A : Type 0} (es : List (BoardEntry A)) (e : BoardEntry A) → AreNumbered es → is_some (birth es) ≡ true → dequeued_in e ≡ None → taken_in e ≡ None → finished_in e ≡ None → AreNumbered (es ++ e ∷ [])
@@ -89,7 +89,7 @@ numbered_quiet es e o b d t f =
     let back = λ (h : queue_born (birth (es ++ e ∷ [])) ≡ true). sym (ap queue_born be) ∙ h in
     record {
       numbers = rw de o.numbers;
-      in_line = (let l = o.in_line in let g = filter_map_grows accepted_in es e in rw de (omega arith));
+      queued = (let l = o.queued in let g = filter_map_grows accepted_in es e in rw de (omega arith));
       taken = λ n h. (let l = o.taken n (subst (λ ts. has n (map (λ (t : ℕ × ℕ). t.0) ts) ≡ true) te h) in omega arith);
       done = λ n h. (let l = o.done n (subst (λ ns. has n ns ≡ true) fe h) in omega arith);
       serial = λ h. rw fe (o.serial (back h));
@@ -109,7 +109,7 @@ numbered_take {A} es caller pipe number o b low =
     let back = λ (h : queue_born (birth (es ++ e ∷ [])) ≡ true). sym (ap queue_born be) ∙ h in
     record {
       numbers = rw de o.numbers;
-      in_line = (let l = o.in_line in let g = filter_map_grows accepted_in es e in rw de (omega arith));
+      queued = (let l = o.queued in let g = filter_map_grows accepted_in es e in rw de (omega arith));
       taken = λ n h. (let l = all_below_more (map (λ (t : ℕ × ℕ). t.0) (filter_map taken_in es)) number (passed_on es) o.taken low n (subst (λ ns. has n ns ≡ true) me h) in omega arith);
       done = λ n h. (let l = o.done n (subst (λ ns. has n ns ≡ true) fe h) in omega arith);
       serial = λ h. rw fe (o.serial (back h));
@@ -117,7 +117,7 @@ numbered_take {A} es caller pipe number o b low =
       ahead = λ h. rw (fe, de) (o.ahead (back h));
     }
 
--- who took a number off a pad took one past the line
+-- who took a number off a pad took one past the queue
 pub took_passed : {A : Type 0} (es : List (BoardEntry A)) (number caller : ℕ) → AreNumbered es → queue_born (birth es) ≡ false → takers number es ≡ caller ∷ [] → number < passed_on es
 took_passed es number caller o q t =
     let s : takings es ≡ filter_map taken_in es = ap (λ b. cond b (dequeues es) (filter_map taken_in es)) q in
@@ -136,7 +136,7 @@ numbered_finish {A} es caller pipe number o lists t =
     let no = λ (h : queue_born (birth (es ++ e ∷ [])) ≡ true). not_both (queue_born (birth es)) (sym (ap queue_born be) ∙ h) (lists_no_queue (birth es) lists) in
     record {
       numbers = rw de o.numbers;
-      in_line = (let l = o.in_line in let g = filter_map_grows accepted_in es e in rw de (omega arith));
+      queued = (let l = o.queued in let g = filter_map_grows accepted_in es e in rw de (omega arith));
       taken = λ n h. (let l = o.taken n (subst (λ ts. has n (map (λ (t : ℕ × ℕ). t.0) ts) ≡ true) te h) in omega arith);
       done = λ n h. (let l = all_below_more (finished es) number (passed_on es) o.done low n (subst (λ ns. has n ns ≡ true) fe h) in omega arith);
       serial = λ h. absurd (no h);
@@ -158,7 +158,7 @@ numbered_deq {A} es caller pipe number starting o b rests w at =
     let back = λ (h : queue_born (birth (es ++ e ∷ [])) ≡ true). sym (ap queue_born be) ∙ h in
     record {
       numbers = rw (de, dl, me, at) (ap (λ ns. ns ++ dequeued es ∷ []) o.numbers);
-      in_line = rw (de, dl, se) (omega arith);
+      queued = rw (de, dl, se) (omega arith);
       taken = λ n h. (let l = o.taken n (subst (λ ts. has n (map (λ (t : ℕ × ℕ). t.0) ts) ≡ true) te h) in omega arith);
       done = λ n h. (let l = o.done n (subst (λ ns. has n ns ≡ true) fe h) in omega arith);
       serial = λ h. rw fe (o.serial (back h));
@@ -185,7 +185,7 @@ numbered_done {A} es caller pipe number o q t f =
     let next = runs_next es number caller o q t f in
     let n = next.0 in
     let high = next.1 in
-    let pass : passed_on es ≡ dequeued es = ap (λ c. cond c (dequeued es) (length (submissions es))) (queue_has_line (birth es) q) in
+    let pass : passed_on es ≡ dequeued es = ap (λ c. cond c (dequeued es) (length (submissions es))) (has_queue_of_queue (birth es) q) in
     let de : dequeues (es ++ e ∷ []) ≡ dequeues es = filter_map-none dequeued_in es e refl in
     let te : filter_map taken_in (es ++ e ∷ []) ≡ filter_map taken_in es = filter_map-none taken_in es e refl in
     let fe : finished (es ++ e ∷ []) ≡ finished es ++ number ∷ [] = filter_map-some finished_in es e number refl in
@@ -193,7 +193,7 @@ numbered_done {A} es caller pipe number o q t f =
     let a = o.ahead q in
     record {
       numbers = rw de o.numbers;
-      in_line = (let l = o.in_line in let g = filter_map_grows accepted_in es e in rw de (omega arith));
+      queued = (let l = o.queued in let g = filter_map_grows accepted_in es e in rw de (omega arith));
       taken = λ m h. (let l = o.taken m (subst (λ ts. has m (map (λ (t : ℕ × ℕ). t.0) ts) ≡ true) te h) in omega arith);
       done = λ m h. (let l = all_below_more (finished es) number (passed_on es) o.done (omega arith) m (subst (λ ns. has m ns ≡ true) fe h) in omega arith);
       serial = λ h. rw (fe, fl) (ap (λ ns. ns ++ number ∷ []) (o.serial q) ∙ ap (λ k. numbers_below (length (finished es)) ++ k ∷ []) n);
@@ -244,7 +244,7 @@ front-accepted es e a o ac f =
     let se : submissions (es ++ e ∷ []) ≡ submissions es ++ a ∷ [] = filter_map-some accepted_in es e a ac in
     let sl : length (submissions es ++ a ∷ []) ≡ suc (length (submissions es)) = (let l = length-append (submissions es) (a ∷ []) in omega arith) in
     let fe : finished (es ++ e ∷ []) ≡ finished es = filter_map-none finished_in es e f in
-    let p = passed-le es o.in_line in
+    let p = passed-le es o.queued in
     let no : has (length (submissions es)) (finished es) ≡ false = false_from_ne_true (has (length (submissions es)) (finished es)) (λ h. (let l = o.done (length (submissions es)) h in absurd (omega arith))) in
     ap (λ ns. unbroken ns 0 (length (submissions (es ++ e ∷ [])))) fe
     ∙ (ap (λ n. unbroken (finished es) 0 n) (ap length se ∙ sl)
@@ -261,7 +261,7 @@ told_finish {A} es caller pipe number given o =
 pub front_done : {A : Type 0} (es : List (BoardEntry A)) (caller pipe number : ℕ) → AreNumbered es → queue_born (birth es) ≡ true → number ≡ length (finished es) → number < dequeued es → (front es ≡ length (finished es)) × (front (es ++ Done caller pipe number ∷ []) ≡ front es + 1)
 front_done {A} es caller pipe number v q n high =
     let e : BoardEntry A = Done caller pipe number in
-    let l = v.in_line in
+    let l = v.queued in
     let k : ℕ = length (finished es) in
     let fe : finished (es ++ e ∷ []) ≡ numbers_below (suc k) = filter_map-some finished_in es e number refl ∙ (ap (λ ns. ns ++ number ∷ []) (v.serial q) ∙ ap (λ m. numbers_below k ++ m ∷ []) n) in
     let se : submissions (es ++ e ∷ []) ≡ submissions es = filter_map-none accepted_in es e refl in
@@ -299,14 +299,14 @@ pub record IsOrderly {A : Type 0} (es : List (BoardEntry A)) (given : List Notic
 pub orderly_start : {A : Type 0} → IsOrderly {A = A} [] []
 orderly_start = record {
   begun = inl (refl, refl);
-  numbered = record { numbers = refl; in_line = omega arith; taken = λ n h. cc; done = λ n h. cc; serial = λ h. refl; behind = λ h. omega arith; ahead = λ h. omega arith };
+  numbered = record { numbers = refl; queued = omega arith; taken = λ n h. cc; done = λ n h. cc; serial = λ h. refl; behind = λ h. omega arith; ahead = λ h. omega arith };
   telling = record { said = refl; front_of = refl; within = omega arith };
 }
 
 born_alone : {A : Type 0} (caller pipe : ℕ) (shape : Shape) → IsOrderly {A = A} (Born caller pipe shape ∷ []) []
 born_alone caller pipe shape = record {
   begun = inr refl;
-  numbered = record { numbers = refl; in_line = omega arith; taken = λ n h. cc; done = λ n h. cc; serial = λ h. refl; behind = λ h. omega arith; ahead = λ h. omega arith };
+  numbered = record { numbers = refl; queued = omega arith; taken = λ n h. cc; done = λ n h. cc; serial = λ h. refl; behind = λ h. omega arith; ahead = λ h. omega arith };
   telling = record { said = refl; front_of = refl; within = omega arith };
 }
 
@@ -353,9 +353,9 @@ orderly_step es (Finish caller pipe number) given o r =
       numbered = numbered_finish es caller pipe number o.numbered r.0 r.1;
       telling = told_finish es caller pipe number given o.telling;
     }
-orderly_step es (Enq caller pipe ask backlog answer) given o r = enq_step es answer caller pipe ask backlog given o (born_some has_line (birth es) r.1.0)
+orderly_step es (Enq caller pipe ask backlog answer) given o r = enq_step es answer caller pipe ask backlog given o (born_some has_queue (birth es) r.1.0)
 orderly_step es (Deq caller pipe number starting) given o r =
-    let b = born_some has_line (birth es) r.0.0 in
+    let b = born_some has_queue (birth es) r.0.0 in
     record {
       begun = inr (ap is_some (birth_stays es (Deq caller pipe number starting) b) ∙ b);
       numbered = numbered_deq es caller pipe number starting o.numbered b r.2 r.3 r.4;

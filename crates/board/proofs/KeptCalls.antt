@@ -11,7 +11,7 @@ use Rattle.board.specs.declared.entry.BoardEntry.TheVariants.{Hold, Go, Collect,
 use Rattle.board.specs.declared.pipeline.Pipeline.{Pipeline}
 use Rattle.board.specs.declared.stage.Stage.{Stage}
 use Rattle.board.specs.declared.stage.Stage.TheVariants as stage
-use Rattle.board.specs.Shapes.{is_pad, has_line, is_born, pad_born, line_born, width_born}
+use Rattle.board.specs.Shapes.{is_pad, has_queue, is_born, pad_born, has_queue_born, width_born}
 use Rattle.board.specs.Stages.{IsPlaced, unfinished_of, holding, callbacks_of, collected_from, MayServe, MayPass}
 use Rattle.board.specs.Stages as stages
 use Rattle.board.specs.Pipelines.{IsSame, with_lists}
@@ -41,7 +41,7 @@ open_here such (x ∷ es) h e = cc
 
 pub any_open_here : {A : Type 0} (es : List (BoardEntry A)) → IsOpen es → es ≢ []
 any_open_here es (inl o) = open_here is_pad es o.0
-any_open_here es (inr o) = open_here has_line es o.0
+any_open_here es (inr o) = open_here has_queue es o.0
 
 -- an open pipeline is kept
 pub kept_open : {J O A : Type 0} (asked : J → A) (meaning : A → O) (pipes : Places (Pipeline J O)) (born : ℕ) (log : List (BoardEntry A)) (p : ℕ) → IsKeptBoard asked meaning pipes born log → IsOpen (entries_of p log) → (x : Pipeline J O) × (pipes p ≡ Some x)
@@ -52,10 +52,10 @@ shape_pad (stage.Pad x) w = refl
 shape_pad (stage.Queue x) w = refl
 shape_pad (stage.Chain x) w = refl
 
-shape_line : {J O : Type 0} (s : Stage J O) (w : ℕ) → has_line (shape_of s w) ≡ stages.has_line s
-shape_line (stage.Pad x) w = refl
-shape_line (stage.Queue x) w = refl
-shape_line (stage.Chain x) w = refl
+shape_server : {J O : Type 0} (s : Stage J O) (w : ℕ) → has_queue (shape_of s w) ≡ stages.has_queue s
+shape_server (stage.Pad x) w = refl
+shape_server (stage.Queue x) w = refl
+shape_server (stage.Chain x) w = refl
 
 -- a number has one pipeline
 pub same_item : {X : Type 0} (o : Option X) (x y : X) → o ≡ Some x → o ≡ Some y → x ≡ y
@@ -91,8 +91,8 @@ module _ {J O A : Type 0} (asked : J → A) (meaning : A → O) where
   pub pad_kept : (pipe : Pipeline J O) (es : List (BoardEntry A)) → IsKeptPipe asked meaning pipe es → pad_born (birth es) ≡ true → stages.is_pad pipe.stage ≡ true
   pad_kept pipe es k b = sym (shape_pad pipe.stage (width_born (birth es))) ∙ (sym (ap pad_born k.born) ∙ b)
 
-  pub line_kept : (pipe : Pipeline J O) (es : List (BoardEntry A)) → IsKeptPipe asked meaning pipe es → line_born (birth es) ≡ true → stages.has_line pipe.stage ≡ true
-  line_kept pipe es k b = sym (shape_line pipe.stage (width_born (birth es))) ∙ (sym (ap line_born k.born) ∙ b)
+  pub server_kept : (pipe : Pipeline J O) (es : List (BoardEntry A)) → IsKeptPipe asked meaning pipe es → has_queue_born (birth es) ≡ true → stages.has_queue pipe.stage ≡ true
+  server_kept pipe es k b = sym (shape_server pipe.stage (width_born (birth es))) ∙ (sym (ap has_queue_born k.born) ∙ b)
 
   module _ (pipes : Pipes J O) (born : ℕ) (log : List (BoardEntry A)) (p : ℕ) (pipe : Pipeline J O) (k : IsKeptBoard asked meaning (places pipes) born log) (here : places pipes p ≡ Some pipe) where
     -- the pipeline's entries are right, each after those before it
@@ -102,8 +102,8 @@ module _ {J O A : Type 0} (asked : J → A) (meaning : A → O) where
     pub pad_here : pad_born (birth (entries_of p log)) ≡ true → stages.is_pad pipe.stage ≡ true
     pad_here b = pad_kept pipe (entries_of p log) (k.each p pipe here) b
 
-    pub line_here : line_born (birth (entries_of p log)) ≡ true → stages.has_line pipe.stage ≡ true
-    line_here b = line_kept pipe (entries_of p log) (k.each p pipe here) b
+    pub server_here : has_queue_born (birth (entries_of p log)) ≡ true → stages.has_queue pipe.stage ≡ true
+    server_here b = server_kept pipe (entries_of p log) (k.each p pipe here) b
 
     -- ---- room
 
@@ -177,7 +177,7 @@ module _ {J O A : Type 0} (asked : J → A) (meaning : A → O) where
         let kp = k.each p pipe here in
         let b = ap is_some kp.born in
         let right : IsRight log e = (tt, (may, opened)) in
-        let kept = stage_more asked meaning pipe (holding pipe.stage true) es e kp (held_shape pipe.stage true) (held_lists pipe.stage true) refl refl refl refl refl (stage_held asked meaning pipe.stage es e pipe.collected true kp.stage (line_kept pipe es kp opened.0) b refl refl refl refl refl refl) in
+        let kept = stage_more asked meaning pipe (holding pipe.stage true) es e kp (held_shape pipe.stage true) (held_lists pipe.stage true) refl refl refl refl refl (stage_held asked meaning pipe.stage es e pipe.collected true kp.stage (server_kept pipe es kp opened.0) b refl refl refl refl refl refl) in
         let s = place_step asked meaning pipes next born log p pipe after e k set (eq-eqb p p refl) refl right (subst (λ x. IsKeptPipe asked meaning x (es ++ e ∷ [])) (sym q) kept) in
         let z = held_owes true after q in
         (s.0, omega (arith, s.1, z))
@@ -190,7 +190,7 @@ module _ {J O A : Type 0} (asked : J → A) (meaning : A → O) where
         let kp = k.each p pipe here in
         let b = ap is_some kp.born in
         let right : IsRight log e = (tt, (may, opened)) in
-        let kept = stage_more asked meaning pipe (holding pipe.stage false) es e kp (held_shape pipe.stage false) (held_lists pipe.stage false) refl refl refl refl refl (stage_held asked meaning pipe.stage es e pipe.collected false kp.stage (line_kept pipe es kp opened.0) b refl refl refl refl refl refl) in
+        let kept = stage_more asked meaning pipe (holding pipe.stage false) es e kp (held_shape pipe.stage false) (held_lists pipe.stage false) refl refl refl refl refl (stage_held asked meaning pipe.stage es e pipe.collected false kp.stage (server_kept pipe es kp opened.0) b refl refl refl refl refl refl) in
         let s = place_step asked meaning pipes next born log p pipe after e k set (eq-eqb p p refl) refl right (subst (λ x. IsKeptPipe asked meaning x (es ++ e ∷ [])) (sym q) kept) in
         let z = held_owes false after q in
         (s.0, omega (arith, s.1, z))

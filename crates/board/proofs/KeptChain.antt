@@ -12,7 +12,7 @@ use Rattle.board.specs.declared.stage.Stage.TheVariants as stage
 use Rattle.board.specs.Stages.{with_outcome, released, ended}
 use Rattle.board.specs.Shapes.{max_born}
 use Rattle.board.specs.Entries.{birth, accepted_in, submissions, dequeued_in, dequeues, passed_on, takers, finished, has, front, completes_from, tells, told, held_in, is_held, last_or, callback_of, meaning_at}
-use Rattle.board.specs.Kept.{IsKeptLine, IsKeptPad, IsKeptStage}
+use Rattle.board.specs.Kept.{IsKeptServer, IsKeptPad, IsKeptStage}
 use Rattle.board.proofs.Lists.{filter_map-none}
 use Rattle.board.proofs.Keeping.{birth_stays, told-more}
 use Rattle.board.proofs.Callbacks.{length-done}
@@ -41,9 +41,9 @@ tells_many {J} {O} {A} asked meaning pad es p n caller out k b l none t f o =
     let then = front_is asked meaning (with_outcome pad n out) (es ++ e ∷ []) (finish_kept asked meaning pad es p n caller out k b t f o) l2 in
     length-completes (front es) (front (es ++ e ∷ []) - front es) ∙ (let q : front (es ++ e ∷ []) - front es ≡ length (ready (with_outcome pad n out).outcomes) = omega arith in q)
 
-line_step : {J O A : Type 0} (asked : J → A) (meaning : A → O) (line : Server J O) (pad : Pad J O) (es : List (BoardEntry A)) (place p n caller : ℕ) (out : O) → IsKeptLine asked meaning line place es → IsKeptPad asked meaning pad es → is_some (birth es) ≡ true → passed_on es ≤ length (submissions es) → ready pad.outcomes ≡ [] → takers n es ≡ caller ∷ [] → has n (finished es) ≡ false → meaning_at meaning (submissions es) n ≡ Some out
-    → IsKeptLine asked meaning (released line (with_outcome pad n out)) place (es ++ Finish caller p n ∷ [])
-line_step {J} {O} {A} asked meaning line pad es place p n caller out k kp b l none t f o =
+server_step : {J O A : Type 0} (asked : J → A) (meaning : A → O) (server : Server J O) (pad : Pad J O) (es : List (BoardEntry A)) (place p n caller : ℕ) (out : O) → IsKeptServer asked meaning server place es → IsKeptPad asked meaning pad es → is_some (birth es) ≡ true → passed_on es ≤ length (submissions es) → ready pad.outcomes ≡ [] → takers n es ≡ caller ∷ [] → has n (finished es) ≡ false → meaning_at meaning (submissions es) n ≡ Some out
+    → IsKeptServer asked meaning (released server (with_outcome pad n out)) place (es ++ Finish caller p n ∷ [])
+server_step {J} {O} {A} asked meaning server pad es place p n caller out k kp b l none t f o =
     let e : BoardEntry A = Finish caller p n in
     let be = birth_stays es e b in
     let subs : submissions (es ++ e ∷ []) ≡ submissions es = filter_map-none accepted_in es e refl in
@@ -63,7 +63,7 @@ line_step {J} {O} {A} asked meaning line pad es place p n caller out k kp b l no
       telling =
           (let q = k.telling in
           let a = length-append (told es) (tells es e) in
-          let d = length-append line.pending (done_from pad.collected (ready after.outcomes)) in
+          let d = length-append server.pending (done_from pad.collected (ready after.outcomes)) in
           let z = length-done pad.collected (ready after.outcomes) in
           let m = ap length more in
           omega arith);
@@ -91,7 +91,7 @@ chain_finish_kept {J} {O} {A} asked meaning c es place p n caller out k b l t f 
     let s = length-set c.pad.outcomes (n - c.pad.collected) (Some out) in
     let j = k.2.0 in
     let i = k.2.1 in (
-      line_step asked meaning c.line c.pad es place p n caller out k.0 k.1 b l k.4 t f o,
+      server_step asked meaning c.server c.pad es place p n caller out k.0 k.1 b l k.4 t f o,
       emptied_kept asked meaning after (es ++ e ∷ []) (finish_kept asked meaning c.pad es p n caller out k.1 b t f o) l2,
       (omega arith, omega arith),
       k.3,

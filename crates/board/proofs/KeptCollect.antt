@@ -11,7 +11,7 @@ use Rattle.board.specs.declared.entry.BoardEntry.TheVariants.{Collect}
 use Rattle.board.specs.Shapes.{max_born, pad_born}
 use Rattle.board.specs.Entries.{Notice, birth, accepted_in, submissions, dequeued_in, dequeues, passed_on, front, completes_from, told, tells, held_in, is_held, last_or, collected, callback_of, delivered}
 use Rattle.board.specs.Order.{AreRightForAfter}
-use Rattle.board.specs.Kept.{IsKeptLine, IsKeptPad}
+use Rattle.board.specs.Kept.{IsKeptServer, IsKeptPad}
 use Rattle.board.proofs.Lists.{filter_map-none, filter_map-some, last_or-append}
 use Rattle.board.proofs.Fronts.{completes_on}
 use Rattle.board.proofs.Keeping.{birth_stays, told-more}
@@ -19,13 +19,13 @@ use Rattle.board.proofs.PadsAndQueues.{pad_tells}
 use Rattle.board.proofs.KeptPad.{front_is, emptied_kept, deliver_is}
 use Rattle.board.proofs.KeptEntering.{pad_quiet}
 
--- what a collect hands out of a line is what waits in it to be told
-pub line_delivered : {J O A : Type 0} (asked : J → A) (meaning : A → O) (line : Server J O) (es : List (BoardEntry A)) (place : ℕ) → IsKeptLine asked meaning line place es → collected es ≡ place → delivered meaning es (length (told es)) ≡ line.pending
-line_delivered asked meaning line es place k c = rw (take-length (told es), c) (sym k.pending)
+-- what a collect hands out of a queue is what waits in it to be told
+pub server_delivered : {J O A : Type 0} (asked : J → A) (meaning : A → O) (server : Server J O) (es : List (BoardEntry A)) (place : ℕ) → IsKeptServer asked meaning server place es → collected es ≡ place → delivered meaning es (length (told es)) ≡ server.pending
+server_delivered asked meaning server es place k c = rw (take-length (told es), c) (sym k.pending)
 
 -- and nothing is left
-pub line_collected : {J O A : Type 0} (asked : J → A) (meaning : A → O) (line : Server J O) (es : List (BoardEntry A)) (place p to caller : ℕ) → IsKeptLine asked meaning line place es → is_some (birth es) ≡ true → to ≡ length (told es) → IsKeptLine asked meaning (record line { pending = [] }) to (es ++ Collect caller p to ∷ [])
-line_collected {J} {O} {A} asked meaning line es place p to caller k b all =
+pub server_collected : {J O A : Type 0} (asked : J → A) (meaning : A → O) (server : Server J O) (es : List (BoardEntry A)) (place p to caller : ℕ) → IsKeptServer asked meaning server place es → is_some (birth es) ≡ true → to ≡ length (told es) → IsKeptServer asked meaning (record server { pending = [] }) to (es ++ Collect caller p to ∷ [])
+server_collected {J} {O} {A} asked meaning server es place p to caller k b all =
     let e : BoardEntry A = Collect caller p to in
     let be = birth_stays es e b in
     let subs : submissions (es ++ e ∷ []) ≡ submissions es = filter_map-none accepted_in es e refl in
@@ -43,9 +43,9 @@ line_collected {J} {O} {A} asked meaning line es place p to caller k b all =
       pending = rw (same, rest) refl;
     }
 
--- a line that is held, or let go
-pub line_held : {J O A : Type 0} (asked : J → A) (meaning : A → O) (line : Server J O) (es : List (BoardEntry A)) (e : BoardEntry A) (place : ℕ) (held : Bool) → IsKeptLine asked meaning line place es → is_some (birth es) ≡ true → accepted_in e ≡ None → dequeued_in e ≡ None → tells es e ≡ [] → held_in e ≡ Some held → IsKeptLine asked meaning (record line { held = held }) place (es ++ e ∷ [])
-line_held asked meaning line es e place held k b a d t h =
+-- a queue that is held, or let go
+pub server_held : {J O A : Type 0} (asked : J → A) (meaning : A → O) (server : Server J O) (es : List (BoardEntry A)) (e : BoardEntry A) (place : ℕ) (held : Bool) → IsKeptServer asked meaning server place es → is_some (birth es) ≡ true → accepted_in e ≡ None → dequeued_in e ≡ None → tells es e ≡ [] → held_in e ≡ Some held → IsKeptServer asked meaning (record server { held = held }) place (es ++ e ∷ [])
+server_held asked meaning server es e place held k b a d t h =
     let be = birth_stays es e b in
     let subs : submissions (es ++ e ∷ []) ≡ submissions es = filter_map-none accepted_in es e a in
     let deqs : dequeues (es ++ e ∷ []) ≡ dequeues es = filter_map-none dequeued_in es e d in

@@ -6,13 +6,13 @@ use Rattle.std.proofs.lemmas.Bool.{eq-eqb, or_left, or_right}
 use Rattle.std.proofs.lemmas.List.{length-map, drop-append-le, take-append-le, take_all, map-append}
 use Rattle.kc_base.specs.declared.callback_list.Callback.TheVariants as callback
 use Rattle.padata_core.specs.Pad.{Pad, taken_of}
-use Rattle.request_queue.specs.Line.{number_at_bound}
+use Rattle.request_queue.specs.BoundedQueue.{number_at_bound}
 use Rattle.cryptd.specs.Server.{Server}
 use Rattle.board.specs.declared.entry.BoardEntry.{BoardEntry}
-use Rattle.board.specs.Shapes.{max_born, line_born}
+use Rattle.board.specs.Shapes.{max_born, has_queue_born}
 use Rattle.board.specs.Entries.{Notice, Starts, Completes, birth, accepted_in, submissions, dequeued_in, dequeues, dequeued, passed_on, taken_in, finished_in, finished, has, front, starts, tells, told, held_in, is_held, last_or, callback_of, completion, meaning_at}
 use Rattle.board.specs.Order.{completed}
-use Rattle.board.specs.Kept.{IsKeptLine, IsKeptPad}
+use Rattle.board.specs.Kept.{IsKeptServer, IsKeptPad}
 use Rattle.board.proofs.Lists.{filter_map-none, filter_map-some, has_only_below}
 use Rattle.board.proofs.Fronts.{unbroken-le}
 use Rattle.board.proofs.Keeping.{birth_stays, told-more, IsOrderly}
@@ -47,10 +47,10 @@ bound_cases : (max s w n : ℕ) (b : Bool) → nat_lt max w ≡ b → n ≡ s + 
 bound_cases max s w n true h e = (let l : max < w = grind arith in grind arith)
 bound_cases max s w n false h e = (let l : w ≤ max = grind arith in grind arith)
 
--- which number starts where the first leaves the line
-pub starts_is : {J O A : Type 0} (asked : J → A) (meaning : A → O) (line : Server J O) (es : List (BoardEntry A)) (place : ℕ) → IsKeptLine asked meaning line place es → number_at_bound line.line ≡ starts es line.line.served
-starts_is asked meaning line es place k =
-    rw (k.bound, bound_cases line.line.max line.line.served (length line.line.waiting) (length (submissions es)) (nat_lt line.line.max (length line.line.waiting)) refl k.submitted) refl
+-- which number starts where the first leaves the queue
+pub starts_is : {J O A : Type 0} (asked : J → A) (meaning : A → O) (server : Server J O) (es : List (BoardEntry A)) (place : ℕ) → IsKeptServer asked meaning server place es → number_at_bound server.queue ≡ starts es server.queue.served
+starts_is asked meaning server es place k =
+    rw (k.bound, bound_cases server.queue.max server.queue.served (length server.queue.waiting) (length (submissions es)) (nat_lt server.queue.max (length server.queue.waiting)) refl k.submitted) refl
 
 -- what is told completes accepted requests alone
 pub completed_low : {A : Type 0} (es : List (BoardEntry A)) (given : List Notice) → IsOrderly es given → (n : ℕ) → has n (completed (told es)) ≡ true → n < length (submissions es)
@@ -59,9 +59,9 @@ completed_low es given o n h =
     let f = unbroken-le (finished es) 0 (length (submissions es)) in
     omega arith
 
--- a line after an entry that neither accepts, lets out, tells nor holds
-pub line_quiet : {J O A : Type 0} (asked : J → A) (meaning : A → O) (line : Server J O) (es : List (BoardEntry A)) (e : BoardEntry A) (place : ℕ) → IsKeptLine asked meaning line place es → is_some (birth es) ≡ true → accepted_in e ≡ None → dequeued_in e ≡ None → tells es e ≡ [] → held_in e ≡ None → IsKeptLine asked meaning line place (es ++ e ∷ [])
-line_quiet asked meaning line es e place k b a d t h =
+-- a queue after an entry that neither accepts, lets out, tells nor holds
+pub server_quiet : {J O A : Type 0} (asked : J → A) (meaning : A → O) (server : Server J O) (es : List (BoardEntry A)) (e : BoardEntry A) (place : ℕ) → IsKeptServer asked meaning server place es → is_some (birth es) ≡ true → accepted_in e ≡ None → dequeued_in e ≡ None → tells es e ≡ [] → held_in e ≡ None → IsKeptServer asked meaning server place (es ++ e ∷ [])
+server_quiet asked meaning server es e place k b a d t h =
     let be = birth_stays es e b in
     let subs : submissions (es ++ e ∷ []) ≡ submissions es = filter_map-none accepted_in es e a in
     let deqs : dequeues (es ++ e ∷ []) ≡ dequeues es = filter_map-none dequeued_in es e d in
@@ -77,26 +77,26 @@ line_quiet asked meaning line es e place k b a d t h =
       pending = rw (same, subs) k.pending;
     }
 
--- a line that accepted a request
-pub line_accepted : {J O A : Type 0} (asked : J → A) (meaning : A → O) (line : Server J O) (es : List (BoardEntry A)) (e : BoardEntry A) (place : ℕ) (job : J) (given : List Notice) → IsKeptLine asked meaning line place es → IsOrderly es given → is_some (birth es) ≡ true → accepted_in e ≡ Some (asked job) → dequeued_in e ≡ None → tells es e ≡ [] → held_in e ≡ None
-    → IsKeptLine asked meaning (record line { line = record line.line { waiting = line.line.waiting ++ job ∷ [] } }) place (es ++ e ∷ [])
-line_accepted asked meaning line es e place job given k o b a d t h =
+-- a queue that accepted a request
+pub server_accepted : {J O A : Type 0} (asked : J → A) (meaning : A → O) (server : Server J O) (es : List (BoardEntry A)) (e : BoardEntry A) (place : ℕ) (job : J) (given : List Notice) → IsKeptServer asked meaning server place es → IsOrderly es given → is_some (birth es) ≡ true → accepted_in e ≡ Some (asked job) → dequeued_in e ≡ None → tells es e ≡ [] → held_in e ≡ None
+    → IsKeptServer asked meaning (record server { queue = record server.queue { waiting = server.queue.waiting ++ job ∷ [] } }) place (es ++ e ∷ [])
+server_accepted asked meaning server es e place job given k o b a d t h =
     let be = birth_stays es e b in
     let subs : submissions (es ++ e ∷ []) ≡ submissions es ++ asked job ∷ [] = filter_map-some accepted_in es e (asked job) a in
     let deqs : dequeues (es ++ e ∷ []) ≡ dequeues es = filter_map-none dequeued_in es e d in
     let held : is_held (es ++ e ∷ []) ≡ is_held es = ap (last_or false) (filter_map-none held_in es e h) in
     let same : told (es ++ e ∷ []) ≡ told es = told-more es e ∙ (ap (λ ns. told es ++ ns) t ∙ append-nil (told es)) in
     let sub = k.submitted in
-    let lw = length-append line.line.waiting (job ∷ []) in
+    let lw = length-append server.queue.waiting (job ∷ []) in
     let ls = length-append (submissions es) (asked job ∷ []) in
     let z = ap length subs in
-    let le : line.line.served ≤ length (submissions es) = omega arith in
+    let le : server.queue.served ≤ length (submissions es) = omega arith in
     record {
       bound = ap max_born be ∙ k.bound;
       holding = held ∙ k.holding;
       submitted = omega arith;
       served = ap length deqs ∙ k.served;
-      waiting = rw (subs, drop-append-le line.line.served (submissions es) (asked job ∷ []) le, ← k.waiting) (map-append asked line.line.waiting (job ∷ []));
+      waiting = rw (subs, drop-append-le server.queue.served (submissions es) (asked job ∷ []) le, ← k.waiting) (map-append asked server.queue.waiting (job ∷ []));
       telling = ap length same ∙ k.telling;
       pending = rw (same, subs) (k.pending ∙ sym (callbacks_more meaning (submissions es) (asked job ∷ []) place (told es) (completed_low es given o)));
     }
@@ -120,8 +120,8 @@ pad_quiet asked meaning pad es e k b a d t f =
       running = λ m l. rw fins (k.running m l);
     }
 
--- the pad within a chain, whose line accepted a request
-pub within_accepted : {J O A : Type 0} (asked : J → A) (meaning : A → O) (pad : Pad J O) (es : List (BoardEntry A)) (e : BoardEntry A) (a : A) → IsKeptPad asked meaning pad es → is_some (birth es) ≡ true → line_born (birth es) ≡ true → passed_on es ≤ length (submissions es) → accepted_in e ≡ Some a → dequeued_in e ≡ None → taken_in e ≡ None → finished_in e ≡ None → IsKeptPad asked meaning pad (es ++ e ∷ [])
+-- the pad within a chain, whose queue accepted a request
+pub within_accepted : {J O A : Type 0} (asked : J → A) (meaning : A → O) (pad : Pad J O) (es : List (BoardEntry A)) (e : BoardEntry A) (a : A) → IsKeptPad asked meaning pad es → is_some (birth es) ≡ true → has_queue_born (birth es) ≡ true → passed_on es ≤ length (submissions es) → accepted_in e ≡ Some a → dequeued_in e ≡ None → taken_in e ≡ None → finished_in e ≡ None → IsKeptPad asked meaning pad (es ++ e ∷ [])
 within_accepted asked meaning pad es e a k b lb le ac d t f =
     let be = birth_stays es e b in
     let subs : submissions (es ++ e ∷ []) ≡ submissions es ++ a ∷ [] = filter_map-some accepted_in es e a ac in
@@ -143,14 +143,14 @@ within_accepted asked meaning pad es e a k b lb le ac d t f =
     }
 
 -- a pad that accepted a request
-pub submit_kept : {J O A : Type 0} (asked : J → A) (meaning : A → O) (pad : Pad J O) (es : List (BoardEntry A)) (e : BoardEntry A) (job : J) (spare : ℕ) → IsKeptPad asked meaning pad es → is_some (birth es) ≡ true → line_born (birth es) ≡ false → accepted_in e ≡ Some (asked job) → dequeued_in e ≡ None → taken_in e ≡ None → finished_in e ≡ None
+pub submit_kept : {J O A : Type 0} (asked : J → A) (meaning : A → O) (pad : Pad J O) (es : List (BoardEntry A)) (e : BoardEntry A) (job : J) (spare : ℕ) → IsKeptPad asked meaning pad es → is_some (birth es) ≡ true → has_queue_born (birth es) ≡ false → accepted_in e ≡ Some (asked job) → dequeued_in e ≡ None → taken_in e ≡ None → finished_in e ≡ None
     → IsKeptPad asked meaning (record pad { waiting = pad.waiting ++ job ∷ []; spare = spare }) (es ++ e ∷ [])
 submit_kept asked meaning pad es e job spare k b lb a d t f =
     let be = birth_stays es e b in
     let subs : submissions (es ++ e ∷ []) ≡ submissions es ++ asked job ∷ [] = filter_map-some accepted_in es e (asked job) a in
     let fins : finished (es ++ e ∷ []) ≡ finished es = filter_map-none finished_in es e f in
     let now : passed_on es ≡ length (submissions es) = ap (λ c. cond c (dequeued es) (length (submissions es))) lb in
-    let then : passed_on (es ++ e ∷ []) ≡ length (submissions (es ++ e ∷ [])) = ap (λ c. cond c (dequeued (es ++ e ∷ [])) (length (submissions (es ++ e ∷ [])))) (ap line_born be ∙ lb) in
+    let then : passed_on (es ++ e ∷ []) ≡ length (submissions (es ++ e ∷ [])) = ap (λ c. cond c (dequeued (es ++ e ∷ [])) (length (submissions (es ++ e ∷ [])))) (ap has_queue_born be ∙ lb) in
     let ls = length-append (submissions es) (asked job ∷ []) in
     let z = ap length subs in
     let s = k.submitted in

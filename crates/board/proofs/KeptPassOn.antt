@@ -9,8 +9,8 @@ use Rattle.board.specs.declared.pipeline.Pipeline.{Pipeline}
 use Rattle.board.specs.declared.stage.Chained.{Chained}
 use Rattle.board.specs.declared.stage.Stage.{Stage}
 use Rattle.board.specs.declared.stage.Stage.TheVariants as stage
-use Rattle.board.specs.Shapes.{is_born, is_chain, queue_born, line_born, width_born}
-use Rattle.board.specs.Stages.{MayPass, PassesNone, IsPlaced, IsLinked, IsApart, after_passed, next_in_line, starts_at, accepted_of}
+use Rattle.board.specs.Shapes.{is_born, is_chain, queue_born, has_queue_born, width_born}
+use Rattle.board.specs.Stages.{MayPass, PassesNone, IsPlaced, IsLinked, IsApart, after_passed, next_in_queue, starts_at, accepted_of}
 use Rattle.board.specs.Entries.{entries_of, birth, submissions, dequeued, waiting, is_held, is_closed, starts, pass_entry, NonePasses}
 use Rattle.board.specs.Legal.{IsRightFor, Is}
 use Rattle.board.specs.Places.{Places, places}
@@ -19,15 +19,15 @@ use Rattle.board.specs.RunQueue.{HasRequest, NoneIs}
 use Rattle.board.proofs.KeptRequests.{few_submissions}
 use Rattle.board.proofs.Kept.{Pipes, IsSet, place_step}
 use Rattle.board.proofs.Transfer.{each_right}
-use Rattle.board.proofs.Closed.{ended_line}
+use Rattle.board.proofs.Closed.{ended_server}
 use Rattle.board.proofs.KeptMarks.{stage_more}
-use Rattle.board.proofs.KeptPassing.{line_passed, pad_passed}
+use Rattle.board.proofs.KeptPassing.{server_passed, pad_passed}
 use Rattle.board.proofs.KeptEntering.{starts_is}
 use Rattle.board.proofs.KeptLists.{passed_lists}
 
 -- the entry by which a chain's first request goes on
 abbrev pub passed_entry : {J O A : Type 0} → Stage J O → ℕ → ℕ → BoardEntry A
-passed_entry s caller p = Deq caller p (next_in_line s) (starts_at s)
+passed_entry s caller p = Deq caller p (next_in_queue s) (starts_at s)
 
 -- passing a request on: what is kept, that it is right, and what it leaves owed
 record IsPassedOf {J O A : Type 0} (asked : J → A) (meaning : A → O) (s : Stage J O) (es : List (BoardEntry A)) (place caller p : ℕ) : Type 0 where
@@ -37,25 +37,25 @@ record IsPassedOf {J O A : Type 0} (asked : J → A) (meaning : A → O) (s : St
   chain : Is is_chain es
   named : passed_entry {A = A} s caller p ≡ Deq caller p (dequeued es) (starts es (dequeued es))
 
-chain_passed : {J O A : Type 0} (asked : J → A) (meaning : A → O) (c : Chained J O) (es : List (BoardEntry A)) (place caller p maker lists : ℕ) (xs : List J) → c.line.line.waiting ≡ xs → IsKeptStage asked meaning (stage.Chain c) place es → birth es ≡ Some (maker, shape_of (stage.Chain c) lists) → is_closed es ≡ false → MayPass (stage.Chain c) → IsPassedOf asked meaning (stage.Chain c) es place caller p
+chain_passed : {J O A : Type 0} (asked : J → A) (meaning : A → O) (c : Chained J O) (es : List (BoardEntry A)) (place caller p maker lists : ℕ) (xs : List J) → c.server.queue.waiting ≡ xs → IsKeptStage asked meaning (stage.Chain c) place es → birth es ≡ Some (maker, shape_of (stage.Chain c) lists) → is_closed es ≡ false → MayPass (stage.Chain c) → IsPassedOf asked meaning (stage.Chain c) es place caller p
 chain_passed asked meaning c es place caller p maker lists [] w k b open_ m = absurd (let l = ap length w in let z = m.2 in omega arith)
 chain_passed {J} {O} {A} asked meaning c es place caller p maker lists (job ∷ rest) w k b open_ m =
     let some = ap is_some b in
     let q = ap queue_born b in
-    let lb = ap line_born b in
+    let lb = ap has_queue_born b in
     let lw = ap length w in
     let sv = k.0.served in
     let sub = k.0.submitted in
     let j = k.2 in
     let placed = k.3 in
-    let first : take 1 c.line.line.waiting ≡ job ∷ [] = ap (take 1) w in
-    let left : drop 1 c.line.line.waiting ≡ rest = ap (drop 1) w in
+    let first : take 1 c.server.queue.waiting ≡ job ∷ [] = ap (take 1) w in
+    let left : drop 1 c.server.queue.waiting ≡ rest = ap (drop 1) w in
     let la = length-append c.pad.waiting (job ∷ []) in
-    let st = starts_is asked meaning c.line es place k.0 in
+    let st = starts_is asked meaning c.server es place k.0 in
     record {
       kept = rw (first, left) (
-        line_passed asked meaning c.line es place p caller job rest k.0 some w,
-        pad_passed asked meaning c.line c.pad es place p caller (c.pad.spare - 1) job rest k.0 k.1 some lb q w,
+        server_passed asked meaning c.server es place p caller job rest k.0 some w,
+        pad_passed asked meaning c.server c.pad es place p caller (c.pad.spare - 1) job rest k.0 k.1 some lb q w,
         ((let z = j.0 in omega arith), (let z = j.1 in omega arith)),
         omega arith,
         k.4,
@@ -64,23 +64,23 @@ chain_passed {J} {O} {A} asked meaning c es place caller p maker lists (job ∷ 
       right = ((lb, open_), k.0.holding ∙ m.0, (λ h. cc), omega arith, sym sv, st);
       pays = rw (first, left) (omega arith);
       chain = ap (is_born is_chain) b;
-      named = ap (λ o. Deq caller p c.line.line.served o) st ∙ ap (λ n. Deq caller p n (starts es n)) (sym sv);
+      named = ap (λ o. Deq caller p c.server.queue.served o) st ∙ ap (λ n. Deq caller p n (starts es n)) (sym sv);
     }
 
 stage_passed : {J O A : Type 0} (asked : J → A) (meaning : A → O) (s : Stage J O) (es : List (BoardEntry A)) (place caller p maker lists : ℕ) → IsKeptStage asked meaning s place es → birth es ≡ Some (maker, shape_of s lists) → is_closed es ≡ false → MayPass s → IsPassedOf asked meaning s es place caller p
 stage_passed asked meaning (stage.Pad pad) es place caller p maker lists k b o m = absurd m
-stage_passed asked meaning (stage.Queue line) es place caller p maker lists k b o m = absurd m
-stage_passed asked meaning (stage.Chain c) es place caller p maker lists k b o m = chain_passed asked meaning c es place caller p maker lists c.line.line.waiting refl k b o m
+stage_passed asked meaning (stage.Queue server) es place caller p maker lists k b o m = absurd m
+stage_passed asked meaning (stage.Chain c) es place caller p maker lists k b o m = chain_passed asked meaning c es place caller p maker lists c.server.queue.waiting refl k b o m
 
 passed_shape : {J O : Type 0} (s : Stage J O) (lists : ℕ) → shape_of (after_passed s) lists ≡ shape_of s lists
 passed_shape (stage.Pad pad) lists = refl
-passed_shape (stage.Queue line) lists = refl
+passed_shape (stage.Queue server) lists = refl
 passed_shape (stage.Chain c) lists = refl
 
 -- a chain's places are kept, and its parts are linked
 stage_linked : {J O A : Type 0} (asked : J → A) (meaning : A → O) (s : Stage J O) (es : List (BoardEntry A)) (place : ℕ) → IsKeptStage asked meaning s place es → IsPlaced s × IsLinked s
 stage_linked asked meaning (stage.Pad pad) es place k = (tt, tt)
-stage_linked asked meaning (stage.Queue line) es place k = (tt, tt)
+stage_linked asked meaning (stage.Queue server) es place k = (tt, tt)
 stage_linked asked meaning (stage.Chain c) es place k = (k.3, k.2)
 
 pub linked_here : {J O A : Type 0} (asked : J → A) (meaning : A → O) (pipes : Pipes J O) (born : ℕ) (log : List (BoardEntry A)) (p : ℕ) (pipe : Pipeline J O) → IsKeptBoard asked meaning (places pipes) born log → places pipes p ≡ Some pipe → IsPlaced pipe.stage × IsLinked pipe.stage
@@ -89,7 +89,7 @@ linked_here asked meaning pipes born log p pipe k here = stage_linked asked mean
 -- and a queue's requests are served, a chain's passed on
 stage_apart : {J O A : Type 0} (asked : J → A) (meaning : A → O) (s : Stage J O) (es : List (BoardEntry A)) (place : ℕ) → IsKeptStage asked meaning s place es → IsApart s
 stage_apart asked meaning (stage.Pad pad) es place k = tt
-stage_apart asked meaning (stage.Queue line) es place k = k.2
+stage_apart asked meaning (stage.Queue server) es place k = k.2
 stage_apart asked meaning (stage.Chain c) es place k = k.5
 
 pub apart_here : {J O A : Type 0} (asked : J → A) (meaning : A → O) (pipes : Pipes J O) (born : ℕ) (log : List (BoardEntry A)) (p : ℕ) (pipe : Pipeline J O) → IsKeptBoard asked meaning (places pipes) born log → places pipes p ≡ Some pipe → IsApart pipe.stage
@@ -114,7 +114,7 @@ pass_step {J} {O} {A} asked meaning pipes born log p caller pipe after next k se
 -- a chain accepted no more requests than there are entries
 stage_few : {J O A : Type 0} (asked : J → A) (meaning : A → O) (s : Stage J O) (es : List (BoardEntry A)) (place : ℕ) → IsKeptStage asked meaning s place es → MayPass s → accepted_of s ≡ length (submissions es)
 stage_few asked meaning (stage.Pad pad) es place k m = absurd m
-stage_few asked meaning (stage.Queue line) es place k m = absurd m
+stage_few asked meaning (stage.Queue server) es place k m = absurd m
 stage_few asked meaning (stage.Chain c) es place k m = sym k.0.submitted
 
 pub few_here : {J O A : Type 0} (asked : J → A) (meaning : A → O) (pipes : Pipes J O) (born : ℕ) (log : List (BoardEntry A)) (p : ℕ) (pipe : Pipeline J O) → IsKeptBoard asked meaning (places pipes) born log → places pipes p ≡ Some pipe → HasRequest pipe → accepted_of pipe.stage ≤ length log
@@ -129,29 +129,29 @@ none_in : {X : Type 0} (xs : List X) → (0 < length xs → ⊥) → length xs �
 none_in [] h = refl
 none_in (x ∷ xs) h = absurd (h (omega arith))
 
-quiet_chain : {J O A : Type 0} (asked : J → A) (meaning : A → O) (c : Chained J O) (es : List (BoardEntry A)) (place : ℕ) (held : Bool) → held ≡ c.line.held → IsKeptStage asked meaning (stage.Chain c) place es → ((held ≡ false) × (c.line.busy ≡ false) × (0 < length c.line.line.waiting) → ⊥) → (is_held es ≡ true) ⊎ (waiting es ≡ 0)
+quiet_chain : {J O A : Type 0} (asked : J → A) (meaning : A → O) (c : Chained J O) (es : List (BoardEntry A)) (place : ℕ) (held : Bool) → held ≡ c.server.held → IsKeptStage asked meaning (stage.Chain c) place es → ((held ≡ false) × (c.server.busy ≡ false) × (0 < length c.server.queue.waiting) → ⊥) → (is_held es ≡ true) ⊎ (waiting es ≡ 0)
 quiet_chain asked meaning c es place true eh k z = inl (k.0.holding ∙ sym eh)
 quiet_chain asked meaning c es place false eh k z =
-    let w = none_in c.line.line.waiting (λ l. z (refl, k.5, l)) in
+    let w = none_in c.server.queue.waiting (λ l. z (refl, k.5, l)) in
     inr (let s = k.0.submitted in let d = k.0.served in omega arith)
 
-quiet_line : {J O A : Type 0} (asked : J → A) (meaning : A → O) (s : Stage J O) (es : List (BoardEntry A)) (place maker lists : ℕ) → IsKeptStage asked meaning s place es → birth es ≡ Some (maker, shape_of s lists) → (MayPass s → ⊥) → is_born is_chain (birth es) ≡ true → (is_held es ≡ true) ⊎ (waiting es ≡ 0)
-quiet_line asked meaning (stage.Pad pad) es place maker lists k b z h = (let g = ap (is_born is_chain) b in cc)
-quiet_line asked meaning (stage.Queue line) es place maker lists k b z h = (let g = ap (is_born is_chain) b in cc)
-quiet_line asked meaning (stage.Chain c) es place maker lists k b z h = quiet_chain asked meaning c es place c.line.held refl k z
+quiet_server : {J O A : Type 0} (asked : J → A) (meaning : A → O) (s : Stage J O) (es : List (BoardEntry A)) (place maker lists : ℕ) → IsKeptStage asked meaning s place es → birth es ≡ Some (maker, shape_of s lists) → (MayPass s → ⊥) → is_born is_chain (birth es) ≡ true → (is_held es ≡ true) ⊎ (waiting es ≡ 0)
+quiet_server asked meaning (stage.Pad pad) es place maker lists k b z h = (let g = ap (is_born is_chain) b in cc)
+quiet_server asked meaning (stage.Queue server) es place maker lists k b z h = (let g = ap (is_born is_chain) b in cc)
+quiet_server asked meaning (stage.Chain c) es place maker lists k b z h = quiet_chain asked meaning c es place c.server.held refl k z
 
-chain_line : (b : Option (ℕ × Shape)) → is_born is_chain b ≡ true → line_born b ≡ true
-chain_line None h = cc
-chain_line (Some (maker, shape.Pad lists)) h = cc
-chain_line (Some (maker, shape.Queue max)) h = cc
-chain_line (Some (maker, shape.Chain max lists)) h = refl
+chain_server : (b : Option (ℕ × Shape)) → is_born is_chain b ≡ true → has_queue_born b ≡ true
+chain_server None h = cc
+chain_server (Some (maker, shape.Pad lists)) h = cc
+chain_server (Some (maker, shape.Queue max)) h = cc
+chain_server (Some (maker, shape.Chain max lists)) h = refl
 
 at_cases : {J O A : Type 0} (asked : J → A) (meaning : A → O) (pipes : Places (Pipeline J O)) (born : ℕ) (log : List (BoardEntry A)) → IsKeptBoard asked meaning pipes born log → NoneIs HasRequest pipes → (p : ℕ) → (p < born) ⊎ (born ≤ p) → (o : Option (Pipeline J O)) → pipes p ≡ o
     → is_born is_chain (birth (entries_of p log)) ≡ true → (is_held (entries_of p log) ≡ true) ⊎ (waiting (entries_of p log) ≡ 0)
-at_cases asked meaning pipes born log k z p (inl below) None at h = inr (ended_line (entries_of p log) (each_right [] log p k.legal) (k.others p below at) (chain_line (birth (entries_of p log)) h))
+at_cases asked meaning pipes born log k z p (inl below) None at h = inr (ended_server (entries_of p log) (each_right [] log p k.legal) (k.others p below at) (chain_server (birth (entries_of p log)) h))
 at_cases asked meaning pipes born log k z p (inl below) (Some pipe) at h =
     let kp = k.each p pipe at in
-    quiet_line asked meaning pipe.stage (entries_of p log) pipe.collected pipe.maker (width_born (birth (entries_of p log))) kp.stage kp.born (z p pipe at) h
+    quiet_server asked meaning pipe.stage (entries_of p log) pipe.collected pipe.maker (width_born (birth (entries_of p log))) kp.stage kp.born (z p pipe at) h
 at_cases asked meaning pipes born log k z p (inr above) o at h = (let g = ap (λ es. is_born is_chain (birth es)) (k.beyond p above) in cc)
 
 pub pass_none : {J O A : Type 0} (asked : J → A) (meaning : A → O) (pipes : Places (Pipeline J O)) (born : ℕ) (log : List (BoardEntry A)) → IsKeptBoard asked meaning pipes born log → NoneIs HasRequest pipes → NonePasses log
@@ -160,11 +160,11 @@ pass_none asked meaning pipes born log k z p h = at_cases asked meaning pipes bo
 -- a stage that may pass a request on isn't quiet
 pub not_none : {J O : Type 0} (s : Stage J O) → MayPass s → PassesNone s → ⊥
 not_none (stage.Pad pad) m z = m
-not_none (stage.Queue line) m z = m
+not_none (stage.Queue server) m z = m
 not_none (stage.Chain c) m (inl held) = (let h = m.0 in cc)
 not_none (stage.Chain c) m (inr (inl busy)) = (let h = m.1 in cc)
 not_none (stage.Chain c) m (inr (inr none)) = (let w = ap length none in let l = m.2 in omega arith)
 
 -- the entry that the call makes
-pub entry_made : {J O : Type 0} (A : Type 0) (s : Stage J O) (caller p number : ℕ) (started : Option ℕ) → number ≡ next_in_line s → started ≡ starts_at s → Deq caller p number started ≡ passed_entry {A = A} s caller p
+pub entry_made : {J O : Type 0} (A : Type 0) (s : Stage J O) (caller p number : ℕ) (started : Option ℕ) → number ≡ next_in_queue s → started ≡ starts_at s → Deq caller p number started ≡ passed_entry {A = A} s caller p
 entry_made A s caller p number started a b = rw (a, b) refl

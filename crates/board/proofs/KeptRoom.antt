@@ -9,11 +9,11 @@ use Rattle.board.specs.declared.entry.BoardEntry.{BoardEntry}
 use Rattle.board.specs.declared.pipeline.Pipeline.{Pipeline}
 use Rattle.board.specs.declared.stage.Stage.{Stage}
 use Rattle.board.specs.declared.stage.Stage.TheVariants as stage
-use Rattle.board.specs.Stages.{is_pad, has_line, is_queue, IsPlaced, IsJoined, bare_pad, without_room, accepted_of, answer_of, with_waiting, after_entered, with_job, MayServe, MayPass}
+use Rattle.board.specs.Stages.{is_pad, has_queue, is_queue, IsPlaced, IsJoined, bare_pad, without_room, accepted_of, answer_of, with_waiting, after_entered, with_job, MayServe, MayPass}
 use Rattle.board.specs.Pipelines.{IsSame, NotesCaller, work_each}
 use Rattle.board.specs.Shapes.{width_born}
 use Rattle.board.specs.Entries.{birth, has, submitters, IsMaker}
-use Rattle.board.specs.Kept.{IsKeptLine, IsKeptPad, IsKeptStage, IsKeptPipe, shape_of, work_owed, owes}
+use Rattle.board.specs.Kept.{IsKeptServer, IsKeptPad, IsKeptStage, IsKeptPipe, shape_of, work_owed, owes}
 use Rattle.board.proofs.KeptMarks.{made_same}
 use Rattle.board.proofs.KeptLists.{lists_like, lists_same}
 
@@ -37,13 +37,13 @@ queue_bare (stage.Chain x) = refl
 pub queue_same : {J O : Type 0} (a b : Stage J O) → without_room a ≡ without_room b → is_queue a ≡ is_queue b
 queue_same a b e = same_by is_queue a b queue_bare e
 
-line_bare : {J O : Type 0} (s : Stage J O) → has_line (without_room s) ≡ has_line s
-line_bare (stage.Pad x) = refl
-line_bare (stage.Queue x) = refl
-line_bare (stage.Chain x) = refl
+server_bare : {J O : Type 0} (s : Stage J O) → has_queue (without_room s) ≡ has_queue s
+server_bare (stage.Pad x) = refl
+server_bare (stage.Queue x) = refl
+server_bare (stage.Chain x) = refl
 
-pub line_same : {J O : Type 0} (a b : Stage J O) → without_room a ≡ without_room b → has_line a ≡ has_line b
-line_same a b e = same_by has_line a b line_bare e
+pub server_same : {J O : Type 0} (a b : Stage J O) → without_room a ≡ without_room b → has_queue a ≡ has_queue b
+server_same a b e = same_by has_queue a b server_bare e
 
 accepted_bare : {J O : Type 0} (s : Stage J O) → accepted_of (without_room s) ≡ accepted_of s
 accepted_bare (stage.Pad x) = refl
@@ -94,15 +94,15 @@ job_bare (stage.Chain x) job = refl
 pub job_same : {J O : Type 0} (a b : Stage J O) (job : J) → without_room a ≡ without_room b → without_room (with_job a job) ≡ without_room (with_job b job)
 job_same a b job e = job_bare a job ∙ (ap (λ s. with_job s job) e ∙ sym (job_bare b job))
 
-waiting_bare : {J O : Type 0} (line : Server J O) (job : J) (answer : Entered) → bare (with_waiting line job answer) ≡ with_waiting (bare line) job answer
-waiting_bare line job (InProgress n) = refl
-waiting_bare line job (Busy n) = refl
-waiting_bare line job NoSpace = refl
+waiting_bare : {J O : Type 0} (server : Server J O) (job : J) (answer : Entered) → bare (with_waiting server job answer) ≡ with_waiting (bare server) job answer
+waiting_bare server job (InProgress n) = refl
+waiting_bare server job (Busy n) = refl
+waiting_bare server job NoSpace = refl
 
 after_bare : {J O : Type 0} (s : Stage J O) (job : J) (answer : Entered) → without_room (after_entered s job answer) ≡ after_entered (without_room s) job answer
 after_bare (stage.Pad x) job answer = refl
-after_bare (stage.Queue x) job answer = ap (λ line. stage.Queue line) (waiting_bare x job answer)
-after_bare (stage.Chain x) job answer = ap (λ line. stage.Chain (record { line = line; pad = bare_pad x.pad })) (waiting_bare x.line job answer)
+after_bare (stage.Queue x) job answer = ap (λ server. stage.Queue server) (waiting_bare x job answer)
+after_bare (stage.Chain x) job answer = ap (λ server. stage.Chain (record { server = server; pad = bare_pad x.pad })) (waiting_bare x.server job answer)
 
 pub after_same : {J O : Type 0} (a b : Stage J O) (job : J) (answer : Entered) → without_room a ≡ without_room b → without_room (after_entered a job answer) ≡ without_room (after_entered b job answer)
 after_same a b job answer e = after_bare a job answer ∙ (ap (λ s. after_entered s job answer) e ∙ sym (after_bare b job answer))
@@ -137,12 +137,12 @@ pass_same a b e m = pass_from b (subst (λ s. MayPass s) e (pass_to a m))
 
 -- ---- what is kept
 
--- a line is kept by its requests, its hold and its callbacks alone
-line_room : {J O A : Type 0} (asked : J → A) (meaning : A → O) (x : Server J O) (place : ℕ) (es : List (BoardEntry A)) (n m : ℕ) → IsKeptLine asked meaning x place es → IsKeptLine asked meaning (record x { spare = n; line = record x.line { spare = m } }) place es
-line_room asked meaning x place es n m k = record { bound = k.bound; holding = k.holding; submitted = k.submitted; served = k.served; waiting = k.waiting; telling = k.telling; pending = k.pending }
+-- a queue is kept by its requests, its hold and its callbacks alone
+server_room : {J O A : Type 0} (asked : J → A) (meaning : A → O) (x : Server J O) (place : ℕ) (es : List (BoardEntry A)) (n m : ℕ) → IsKeptServer asked meaning x place es → IsKeptServer asked meaning (record x { spare = n; queue = record x.queue { spare = m } }) place es
+server_room asked meaning x place es n m k = record { bound = k.bound; holding = k.holding; submitted = k.submitted; served = k.served; waiting = k.waiting; telling = k.telling; pending = k.pending }
 
-line_back : {J O A : Type 0} (asked : J → A) (meaning : A → O) (x : Server J O) (place : ℕ) (es : List (BoardEntry A)) (n m : ℕ) → IsKeptLine asked meaning (record x { spare = n; line = record x.line { spare = m } }) place es → IsKeptLine asked meaning x place es
-line_back asked meaning x place es n m k = record { bound = k.bound; holding = k.holding; submitted = k.submitted; served = k.served; waiting = k.waiting; telling = k.telling; pending = k.pending }
+server_back : {J O A : Type 0} (asked : J → A) (meaning : A → O) (x : Server J O) (place : ℕ) (es : List (BoardEntry A)) (n m : ℕ) → IsKeptServer asked meaning (record x { spare = n; queue = record x.queue { spare = m } }) place es → IsKeptServer asked meaning x place es
+server_back asked meaning x place es n m k = record { bound = k.bound; holding = k.holding; submitted = k.submitted; served = k.served; waiting = k.waiting; telling = k.telling; pending = k.pending }
 
 -- a pad by its jobs and its outcomes
 pub pad_like : {J O A : Type 0} (asked : J → A) (meaning : A → O) (x : Pad J O) (es : List (BoardEntry A)) (lists spare : ℕ) → IsKeptPad asked meaning x es → IsKeptPad asked meaning (record x { lists = lists; spare = spare }) es
@@ -151,12 +151,12 @@ pad_like asked meaning x es lists spare k = record { submitted = k.submitted; wa
 pad_back : {J O A : Type 0} (asked : J → A) (meaning : A → O) (x : Pad J O) (es : List (BoardEntry A)) (n : ℕ) → IsKeptPad asked meaning (record x { spare = n }) es → IsKeptPad asked meaning x es
 pad_back asked meaning x es n k = record { submitted = k.submitted; waiting = k.waiting; taken = k.taken; untaken = k.untaken; outcomes = k.outcomes; passed = k.passed; running = k.running }
 
--- all of it but that each request in a chain's line has its place
+-- all of it but that each request in a chain's queue has its place
 abbrev pub IsKeptCore : {J O A : Type 0} → (J → A) → (A → O) → Stage J O → ℕ → List (BoardEntry A) → Type 0
 IsKeptCore asked meaning (stage.Pad pad) place es = IsKeptStage asked meaning (stage.Pad pad) place es
-IsKeptCore asked meaning (stage.Queue line) place es = IsKeptStage asked meaning (stage.Queue line) place es
+IsKeptCore asked meaning (stage.Queue server) place es = IsKeptStage asked meaning (stage.Queue server) place es
 IsKeptCore asked meaning (stage.Chain c) place es =
-    IsKeptLine asked meaning c.line place es × IsKeptPad asked meaning c.pad es × IsJoined c.line c.pad × (ready c.pad.outcomes ≡ []) × (c.line.busy ≡ false)
+    IsKeptServer asked meaning c.server place es × IsKeptPad asked meaning c.pad es × IsJoined c.server c.pad × (ready c.pad.outcomes ≡ []) × (c.server.busy ≡ false)
 
 core_of : {J O A : Type 0} (asked : J → A) (meaning : A → O) (s : Stage J O) (place : ℕ) (es : List (BoardEntry A)) → IsKeptStage asked meaning s place es → IsKeptCore asked meaning s place es
 core_of asked meaning (stage.Pad x) place es k = k
@@ -170,13 +170,13 @@ placed_core asked meaning (stage.Chain x) place es k l = (k.0, k.1, k.2, l, k.3,
 
 core_to : {J O A : Type 0} (asked : J → A) (meaning : A → O) (s : Stage J O) (place : ℕ) (es : List (BoardEntry A)) → IsKeptCore asked meaning s place es → IsKeptCore asked meaning (without_room s) place es
 core_to asked meaning (stage.Pad x) place es k = (pad_like asked meaning x es x.lists 0 k.0, k.1)
-core_to asked meaning (stage.Queue x) place es k = (line_room asked meaning x place es 0 0 k.0, k.1, k.2)
-core_to asked meaning (stage.Chain x) place es k = (line_room asked meaning x.line place es 0 0 k.0, pad_like asked meaning x.pad es x.pad.lists 0 k.1, k.2, k.3, k.4)
+core_to asked meaning (stage.Queue x) place es k = (server_room asked meaning x place es 0 0 k.0, k.1, k.2)
+core_to asked meaning (stage.Chain x) place es k = (server_room asked meaning x.server place es 0 0 k.0, pad_like asked meaning x.pad es x.pad.lists 0 k.1, k.2, k.3, k.4)
 
 core_from : {J O A : Type 0} (asked : J → A) (meaning : A → O) (s : Stage J O) (place : ℕ) (es : List (BoardEntry A)) → IsKeptCore asked meaning (without_room s) place es → IsKeptCore asked meaning s place es
 core_from asked meaning (stage.Pad x) place es k = (pad_back asked meaning x es 0 k.0, k.1)
-core_from asked meaning (stage.Queue x) place es k = (line_back asked meaning x place es 0 0 k.0, k.1, k.2)
-core_from asked meaning (stage.Chain x) place es k = (line_back asked meaning x.line place es 0 0 k.0, pad_back asked meaning x.pad es 0 k.1, k.2, k.3, k.4)
+core_from asked meaning (stage.Queue x) place es k = (server_back asked meaning x place es 0 0 k.0, k.1, k.2)
+core_from asked meaning (stage.Chain x) place es k = (server_back asked meaning x.server place es 0 0 k.0, pad_back asked meaning x.pad es 0 k.1, k.2, k.3, k.4)
 
 pub core_same : {J O A : Type 0} (asked : J → A) (meaning : A → O) (a b : Stage J O) (place : ℕ) (es : List (BoardEntry A)) → without_room a ≡ without_room b → IsPlaced a → IsKeptCore asked meaning b place es → IsKeptStage asked meaning a place es
 core_same asked meaning a b place es e l k =

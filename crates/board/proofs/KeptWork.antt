@@ -9,7 +9,7 @@ use Rattle.std.proofs.lemmas.List.{map-append}
 use Rattle.std.proofs.lemmas.List.Elements.{filter-append}
 use Rattle.padata_core.specs.Pad.{Pad, taken_of, ready, running_of}
 use Rattle.padata_core.proofs.Tables.{running-more}
-use Rattle.request_queue.specs.Line.{number_at_bound}
+use Rattle.request_queue.specs.BoundedQueue.{number_at_bound}
 use Rattle.cryptd.specs.Server.{Server}
 use Rattle.board.specs.declared.entry.Shape.{Shape}
 use Rattle.board.specs.declared.entry.Shape.TheVariants as shape
@@ -18,7 +18,7 @@ use Rattle.board.specs.declared.entry.BoardEntry.TheVariants.{Take, Deq}
 use Rattle.board.specs.declared.pipeline.Pipeline.{Pipeline}
 use Rattle.board.specs.declared.stage.Stage.{Stage}
 use Rattle.board.specs.declared.stage.Stage.TheVariants as stage
-use Rattle.board.specs.Shapes.{queue_born, line_born, lists_born, width_born}
+use Rattle.board.specs.Shapes.{queue_born, has_queue_born, lists_born, width_born}
 use Rattle.board.specs.Stages.{is_queue, jobs_of, next_of, started_by, MayServe, MayPass, without_first}
 use Rattle.board.specs.Entries.{is_of, entries_of, birth_in, birth, accepted_in, submissions, dequeued_in, dequeues, dequeued, passed_on, taken_in, takings, takers, finished_in, finished, has, is_close, is_closed, is_share, masked_in, submitter_in, collected_in, take_entry, MayTake, AllTaken, IsHeldBusyOrEmpty, NoneFor}
 use Rattle.board.specs.Legal.{IsRight, IsRightFor, MayFinish, LegalBoard, is_shut_entry}
@@ -29,12 +29,12 @@ use Rattle.board.proofs.Lists.{filter_map-none, filter_map-some, has_only_below}
 use Rattle.board.proofs.Transfer.{entries-more, each_right}
 use Rattle.board.proofs.Keeping.{birth_stays, AreNumbered, passed-le, orderly}
 use Rattle.board.proofs.Kept.{Pipes, IsSet, place_step}
-use Rattle.board.proofs.Closed.{ended_taken, ended_line}
+use Rattle.board.proofs.Closed.{ended_taken, ended_server}
 use Rattle.board.proofs.KeptMarks.{stage_more}
 use Rattle.board.proofs.Admitting.{queue_kept, may_take, admitted}
 use Rattle.board.proofs.KeptPassing.{drop_head}
 use Rattle.board.proofs.KeptTaking.{takers-taken, take_kept}
-use Rattle.board.proofs.KeptEntering.{line_quiet, starts_is}
+use Rattle.board.proofs.KeptEntering.{server_quiet, starts_is}
 use Rattle.board.proofs.KeptQueue.{queue_taken}
 use Rattle.board.proofs.KeptLists.{first_lists}
 
@@ -140,30 +140,30 @@ stage_taken {J} {O} {A} asked meaning (stage.Pad pad) es place caller p maker li
     let none = k.0.untaken n (omega arith) in
     let ask = pad_ask asked meaning pad es job rest k.0 w in
     record {
-      kept = (take_kept asked meaning pad es p caller job rest k.0 some q (passed-le es o.in_line) w, k.1);
+      kept = (take_kept asked meaning pad es p caller job rest k.0 some q (passed-le es o.queued) w, k.1);
       right = ((ap lists_born b, open_), low, none, may refl);
       pays = taken_pays pad job rest w;
       ask = ask;
       finishing = may_finish meaning es e caller n (asked job) (takers-off es p n caller some q none) refl refl (k.0.running n (omega arith)) ask;
     }
-stage_taken {J} {O} {A} asked meaning (stage.Queue line) es place caller p maker lists job rest k b o open_ may m w =
+stage_taken {J} {O} {A} asked meaning (stage.Queue server) es place caller p maker lists job rest k b o open_ may m w =
     let some = ap is_some b in
     let q = ap queue_born b in
-    let n = line.line.served in
-    let e : BoardEntry A = Deq caller p n (number_at_bound line.line) in
+    let n = server.queue.served in
+    let e : BoardEntry A = Deq caller p n (number_at_bound server.queue) in
     let sv = k.0.served in
     let sub = k.0.submitted in
     let lw = ap length w in
-    let idle = not_busy line.busy (length (finished es)) line.line.served m.1 k.1 in
-    let pass : passed_on es ≡ dequeued es = ap (λ c. cond c (dequeued es) (length (submissions es))) (ap line_born b) in
+    let idle = not_busy server.busy (length (finished es)) server.queue.served m.1 k.1 in
+    let pass : passed_on es ≡ dequeued es = ap (λ c. cond c (dequeued es) (length (submissions es))) (ap has_queue_born b) in
     let none = queue_untaken es n o q (omega arith) in
     let ask = (drop_head (submissions es) n (asked job) (map asked rest) (sym k.0.waiting ∙ ap (map asked) w)).0 in
     record {
-      kept = queue_taken asked meaning line es place p caller job rest k some m.1 w;
-      right = ((ap line_born b, open_), k.0.holding ∙ m.0, (λ h. omega arith), omega arith, sym sv, starts_is asked meaning line es place k.0);
+      kept = queue_taken asked meaning server es place p caller job rest k some m.1 w;
+      right = ((ap has_queue_born b, open_), k.0.holding ∙ m.0, (λ h. omega arith), omega arith, sym sv, starts_is asked meaning server es place k.0);
       pays = rw m.1 (omega arith);
       ask = ask;
-      finishing = may_finish meaning es e caller n (asked job) (takers-let es p n caller (number_at_bound line.line) some q none) refl refl (unfinished_beyond es n o (omega arith)) ask;
+      finishing = may_finish meaning es e caller n (asked job) (takers-let es p n caller (number_at_bound server.queue) some q none) refl refl (unfinished_beyond es n o (omega arith)) ask;
     }
 stage_taken {J} {O} {A} asked meaning (stage.Chain c) es place caller p maker lists job rest k b o open_ may m w =
     let some = ap is_some b in
@@ -179,8 +179,8 @@ stage_taken {J} {O} {A} asked meaning (stage.Chain c) es place caller p maker li
     let j = k.2 in
     record {
       kept = (
-        line_quiet asked meaning c.line es e place k.0 some refl refl refl refl,
-        take_kept asked meaning c.pad es p caller job rest k.1 some q (passed-le es o.in_line) w,
+        server_quiet asked meaning c.server es e place k.0 some refl refl refl refl,
+        take_kept asked meaning c.pad es p caller job rest k.1 some q (passed-le es o.queued) w,
         (j.0, (let z = j.1 in omega arith)),
         k.3,
         ready_more c.pad.outcomes k.4,
@@ -202,22 +202,22 @@ pub record ChangesStage {A : Type 0} (e : BoardEntry A) : Type 0 where
 
 first_changes : {J O : Type 0} (A : Type 0) (s : Stage J O) (caller p : ℕ) → ChangesStage {A = A} (first_taken s caller p)
 first_changes A (stage.Pad pad) caller p = record { close = refl; share = refl; mask = refl; submitter = refl; collect = refl }
-first_changes A (stage.Queue line) caller p = record { close = refl; share = refl; mask = refl; submitter = refl; collect = refl }
+first_changes A (stage.Queue server) caller p = record { close = refl; share = refl; mask = refl; submitter = refl; collect = refl }
 first_changes A (stage.Chain c) caller p = record { close = refl; share = refl; mask = refl; submitter = refl; collect = refl }
 
 first_shape : {J O : Type 0} (s : Stage J O) (rest : List J) (lists : ℕ) → shape_of (without_first s rest) lists ≡ shape_of s lists
 first_shape (stage.Pad pad) rest lists = refl
-first_shape (stage.Queue line) rest lists = refl
+first_shape (stage.Queue server) rest lists = refl
 first_shape (stage.Chain c) rest lists = refl
 
 pub first_of : {J O : Type 0} (A : Type 0) (s : Stage J O) (caller p : ℕ) → (is_of {A = A} p (first_taken s caller p) ≡ true) × (birth_in {A = A} (first_taken s caller p) ≡ None)
 first_of A (stage.Pad pad) caller p = (eq-eqb p p refl, refl)
-first_of A (stage.Queue line) caller p = (eq-eqb p p refl, refl)
+first_of A (stage.Queue server) caller p = (eq-eqb p p refl, refl)
 first_of A (stage.Chain c) caller p = (eq-eqb p p refl, refl)
 
 first_right : {J O A : Type 0} (log : List (BoardEntry A)) (s : Stage J O) (caller p : ℕ) → IsRightFor (entries_of p log) (first_taken s caller p) → IsRight log (first_taken s caller p)
 first_right log (stage.Pad pad) caller p r = (tt, r)
-first_right log (stage.Queue line) caller p r = (tt, r)
+first_right log (stage.Queue server) caller p r = (tt, r)
 first_right log (stage.Chain c) caller p r = (tt, r)
 
 -- the entries of a pipeline are numbered
@@ -247,7 +247,7 @@ take_step {J} {O} {A} asked meaning pipes born log p caller pipe after job next 
 -- the entry that a take adds, as the history names it
 named_cases : {J O A : Type 0} (asked : J → A) (meaning : A → O) (log : List (BoardEntry A)) (s : Stage J O) (caller p place : ℕ) → IsKeptStage asked meaning s place (entries_of p log) → queue_born (birth (entries_of p log)) ≡ is_queue s → first_taken s caller p ≡ take_entry log caller p (next_of s)
 named_cases asked meaning log (stage.Pad pad) caller p place k q = rw q refl
-named_cases asked meaning log (stage.Queue line) caller p place k q = rw q (ap (λ o. Deq caller p line.line.served o) (starts_is asked meaning line (entries_of p log) place k.0))
+named_cases asked meaning log (stage.Queue server) caller p place k q = rw q (ap (λ o. Deq caller p server.queue.served o) (starts_is asked meaning server (entries_of p log) place k.0))
 named_cases asked meaning log (stage.Chain c) caller p place k q = rw q refl
 
 pub take_entry_is : {J O A : Type 0} (asked : J → A) (meaning : A → O) (log : List (BoardEntry A)) (pipe : Pipeline J O) (caller p : ℕ) → IsKeptPipe asked meaning pipe (entries_of p log) → first_taken pipe.stage caller p ≡ take_entry log caller p (next_of pipe.stage)
@@ -266,28 +266,28 @@ busy_less : (b : Bool) (f s d : ℕ) → b ≡ true → f + cond b 1 0 ≡ s →
 busy_less true f s d h e g = omega arith
 busy_less false f s d h e g = cc
 
-quiet_queue : {J O A : Type 0} (asked : J → A) (meaning : A → O) (line : Server J O) (es : List (BoardEntry A)) (place : ℕ) (held busy : Bool) → held ≡ line.held → busy ≡ line.busy → IsKeptStage asked meaning (stage.Queue line) place es → ((held ≡ false) × (busy ≡ false) × (0 < length line.line.waiting) → ⊥) → IsHeldBusyOrEmpty es
-quiet_queue asked meaning line es place true busy eh eb k z = inl (k.0.holding ∙ sym eh)
-quiet_queue asked meaning line es place false true eh eb k z = inr (inl (busy_less line.busy (length (finished es)) line.line.served (dequeued es) (sym eb) k.1 k.0.served))
-quiet_queue asked meaning line es place false false eh eb k z =
-    let w = no_job line.line.waiting (λ l. z (refl, refl, l)) in
+quiet_queue : {J O A : Type 0} (asked : J → A) (meaning : A → O) (server : Server J O) (es : List (BoardEntry A)) (place : ℕ) (held busy : Bool) → held ≡ server.held → busy ≡ server.busy → IsKeptStage asked meaning (stage.Queue server) place es → ((held ≡ false) × (busy ≡ false) × (0 < length server.queue.waiting) → ⊥) → IsHeldBusyOrEmpty es
+quiet_queue asked meaning server es place true busy eh eb k z = inl (k.0.holding ∙ sym eh)
+quiet_queue asked meaning server es place false true eh eb k z = inr (inl (busy_less server.busy (length (finished es)) server.queue.served (dequeued es) (sym eb) k.1 k.0.served))
+quiet_queue asked meaning server es place false false eh eb k z =
+    let w = no_job server.queue.waiting (λ l. z (refl, refl, l)) in
     inr (inr (let s = k.0.submitted in let d = k.0.served in omega arith))
 
 quiet_stage : {J O A : Type 0} (asked : J → A) (meaning : A → O) (s : Stage J O) (es : List (BoardEntry A)) (place caller maker lists : ℕ) → IsKeptStage asked meaning s place es → birth es ≡ Some (maker, shape_of s lists) → ((is_queue s ≡ true) ⊎ MayTake es caller → MayServe s → ⊥)
     → (lists_born (birth es) ≡ true → MayTake es caller → AllTaken es) × (queue_born (birth es) ≡ true → IsHeldBusyOrEmpty es)
 quiet_stage asked meaning (stage.Pad pad) es place caller maker lists k b z = (λ h t. pad_taken asked meaning pad es k.0 (z (inr t)), λ h. (let g = ap queue_born b in cc))
-quiet_stage asked meaning (stage.Queue line) es place caller maker lists k b z = (λ h t. (let g = ap lists_born b in cc), λ h. quiet_queue asked meaning line es place line.held line.busy refl refl k (z (inl refl)))
+quiet_stage asked meaning (stage.Queue server) es place caller maker lists k b z = (λ h t. (let g = ap lists_born b in cc), λ h. quiet_queue asked meaning server es place server.held server.busy refl refl k (z (inl refl)))
 quiet_stage asked meaning (stage.Chain c) es place caller maker lists k b z = (λ h t. pad_taken asked meaning c.pad es k.1 (z (inr t)), λ h. (let g = ap queue_born b in cc))
 
 admits_of : {J O A : Type 0} (asked : J → A) (meaning : A → O) (pipe : Pipeline J O) (es : List (BoardEntry A)) (caller : ℕ) → IsKeptPipe asked meaning pipe es → (is_queue pipe.stage ≡ true) ⊎ MayTake es caller → Admits pipe caller
 admits_of asked meaning pipe es caller k (inl q) = inl q
 admits_of asked meaning pipe es caller k (inr t) = admitted asked meaning pipe es caller k t
 
-queue_line : (b : Option (ℕ × Shape)) → queue_born b ≡ true → line_born b ≡ true
-queue_line None h = cc
-queue_line (Some (maker, shape.Pad lists)) h = cc
-queue_line (Some (maker, shape.Queue max)) h = refl
-queue_line (Some (maker, shape.Chain max lists)) h = refl
+queue_server : (b : Option (ℕ × Shape)) → queue_born b ≡ true → has_queue_born b ≡ true
+queue_server None h = cc
+queue_server (Some (maker, shape.Pad lists)) h = cc
+queue_server (Some (maker, shape.Queue max)) h = refl
+queue_server (Some (maker, shape.Chain max lists)) h = refl
 
 at_cases : {J O A : Type 0} (asked : J → A) (meaning : A → O) (pipes : Places (Pipeline J O)) (born : ℕ) (log : List (BoardEntry A)) (caller : ℕ) → IsKeptBoard asked meaning pipes born log → NoneIs (λ (pipe : Pipeline J O). HasJob pipe × Admits pipe caller) pipes → (p : ℕ) → (p < born) ⊎ (born ≤ p) → (o : Option (Pipeline J O)) → pipes p ≡ o
     → (lists_born (birth (entries_of p log)) ≡ true → MayTake (entries_of p log) caller → AllTaken (entries_of p log)) × (queue_born (birth (entries_of p log)) ≡ true → IsHeldBusyOrEmpty (entries_of p log))
@@ -295,7 +295,7 @@ at_cases asked meaning pipes born log caller k z p (inl below) None at =
     let es = entries_of p log in
     let r = each_right [] log p k.legal in
     let shut = k.others p below at in
-    (λ h m. ended_taken es r shut, λ h. inr (inr (ended_line es r shut (queue_line (birth es) h))))
+    (λ h m. ended_taken es r shut, λ h. inr (inr (ended_server es r shut (queue_server (birth es) h))))
 at_cases asked meaning pipes born log caller k z p (inl below) (Some pipe) at =
     let kp = k.each p pipe at in
     quiet_stage asked meaning pipe.stage (entries_of p log) pipe.collected caller pipe.maker (width_born (birth (entries_of p log))) kp.stage kp.born (λ t m. z p pipe at (m, admits_of asked meaning pipe (entries_of p log) caller kp t))
@@ -307,13 +307,13 @@ take_none asked meaning pipes born log caller k z p = at_cases asked meaning pip
 -- no Shut, and no acceptance, is among the entries of work
 pub first_quiet : {J O : Type 0} (A : Type 0) (s : Stage J O) (caller p : ℕ) → (is_shut_entry {A = A} (first_taken s caller p) ≡ false) × (accepted_in {A = A} (first_taken s caller p) ≡ None)
 first_quiet A (stage.Pad pad) caller p = (refl, refl)
-first_quiet A (stage.Queue line) caller p = (refl, refl)
+first_quiet A (stage.Queue server) caller p = (refl, refl)
 first_quiet A (stage.Chain c) caller p = (refl, refl)
 
 -- a take lets nothing more be passed on
 first_passes : {J O : Type 0} (s : Stage J O) (rest : List J) → MayPass (without_first s rest) → MayPass s
 first_passes (stage.Pad pad) rest m = m
-first_passes (stage.Queue line) rest m = m
+first_passes (stage.Queue server) rest m = m
 first_passes (stage.Chain c) rest m = m
 
 pub take_passes : {J O : Type 0} (s after : Stage J O) (rest : List J) → after ≡ without_first s rest → MayPass after → MayPass s
@@ -321,7 +321,7 @@ take_passes s after rest e m = first_passes s rest (subst MayPass e m)
 
 pub first_is_queue : {J O : Type 0} (s : Stage J O) (rest : List J) → is_queue (without_first s rest) ≡ is_queue s
 first_is_queue (stage.Pad pad) rest = refl
-first_is_queue (stage.Queue line) rest = refl
+first_is_queue (stage.Queue server) rest = refl
 first_is_queue (stage.Chain c) rest = refl
 
 -- the entry that the call makes

@@ -5,10 +5,10 @@ pub mod Keeping
 pub mod Handing
 pub mod Starting
 pub mod PadsAndQueues
-pub mod InLine
-pub mod OwnLines
-pub mod LinesHold
-pub mod LinesMade
+pub mod Queued
+pub mod CallersQueues
+pub mod RunQueuesHold
+pub mod RunQueuesMade
 pub mod Searching
 pub mod Callbacks
 pub mod KeptPad
@@ -25,7 +25,7 @@ pub mod Admitting
 pub mod KeptWork
 pub mod KeptFinish
 pub mod KeptPassOn
-pub mod KeptLines
+pub mod KeptRunQueues
 pub mod KeptLists
 pub mod KeptMarks
 pub mod KeptRoom

@@ -12,8 +12,8 @@ use Rattle.board.specs.Entries.{is_of, entries_of, birth_in, birth, submissions,
 use Rattle.board.specs.Allowance.{accepted_from, accepted_by}
 use Rattle.board.specs.Legal.{IsRight, IsRightFor, AreRightAfter, LegalBoard, MaySubmit, MayManage, MayFinish, IsOpenAs, is_shut_entry, is_shut}
 use Rattle.board.specs.Order.{handed_out, completed}
-use Rattle.board.specs.Handing.{is_collect}
-use Rattle.board.specs.Staying.{IsDrained, is_work}
+use Rattle.board.specs.HandedOut.{is_collect}
+use Rattle.board.specs.PipelineHistory.{IsDrained, is_work}
 use Rattle.board.specs.Others.{OthersCome, WorkComes, OthersAlone, StaysKnown, WorkLeavesKnown, WorkLeavesDrained, WorkLeavesOwn, OthersLeaveOpen, OthersLeaveSlips}
 use Rattle.board.proofs.Transfer.{right_for, entries-more, entries-same, each_right}
 use Rattle.board.proofs.Lists.{filter_map-none, length-numbers}

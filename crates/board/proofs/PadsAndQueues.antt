@@ -7,13 +7,13 @@ use Rattle.board.specs.declared.entry.Shape.{Shape}
 use Rattle.board.specs.declared.entry.Shape.TheVariants as shape
 use Rattle.board.specs.declared.entry.BoardEntry.{BoardEntry}
 use Rattle.board.specs.declared.entry.BoardEntry.TheVariants.{Born, Submit, Take, Finish, Enq, Deq, Done, Hold, Go, Collect, Close, Share, Mask, Shut}
-use Rattle.board.specs.Shapes.{is_pad, is_serial, has_line, has_lists, pad_born, queue_born, line_born, lists_born}
+use Rattle.board.specs.Shapes.{is_pad, is_serial, has_queue, has_lists, pad_born, queue_born, has_queue_born, lists_born}
 use Rattle.board.specs.Entries.{Notice, birth, front, completes_from, tells, told}
 use Rattle.board.specs.Legal.{IsRightFor}
 use Rattle.board.specs.Order.{handed_in, AreRightForAfter, step_tells}
 use Rattle.board.proofs.Fronts.{front_grows, completes_on}
 use Rattle.board.proofs.Keeping.{birth_stays, born_some, maker_some, lists_no_queue, not_both, IsOrderly, orderly_start, orderly_step, front-same, front-accepted, told-more}
-use Rattle.board.proofs.Starting.{pad_no_line}
+use Rattle.board.proofs.Starting.{pad_no_queue}
 
 queue_no_pad : (b : Option (ℕ × Shape)) → queue_born b ≡ true → pad_born b ≡ true → ⊥
 queue_no_pad None h g = cc
@@ -21,8 +21,8 @@ queue_no_pad (Some (maker, shape.Pad lists)) h g = cc
 queue_no_pad (Some (maker, shape.Queue max)) h g = cc
 queue_no_pad (Some (maker, shape.Chain max lists)) h g = cc
 
-line_no_pad : (b : Option (ℕ × Shape)) → line_born b ≡ true → pad_born b ≡ true → ⊥
-line_no_pad b h g = not_both (line_born b) h (pad_no_line b g)
+queue_no_pad : (b : Option (ℕ × Shape)) → has_queue_born b ≡ true → pad_born b ≡ true → ⊥
+queue_no_pad b h g = not_both (has_queue_born b) h (pad_no_queue b g)
 
 -- a pad tells the completions up to its front
 abbrev TellsFront : {A : Type 0} → List (BoardEntry A) → Type 0
@@ -56,8 +56,8 @@ pad_step es (Submit caller pipe number ask) given v r o =
     pad_quiet es (Submit caller pipe number ask) o (born_some is_pad (birth es) r.1.0) refl (front-accepted es (Submit caller pipe number ask) (arc_value ask) v.numbered refl refl)
 pad_step es (Take caller pipe number) given v r o = pad_quiet es (Take caller pipe number) o (born_some has_lists (birth es) r.0.0) refl (front-same es (Take caller pipe number) refl refl)
 pad_step es (Finish caller pipe number) given v r o = pad_finish es caller pipe number o (born_some has_lists (birth es) r.0)
-pad_step es (Enq caller pipe ask backlog answer) given v r o = no_pad es (Enq caller pipe ask backlog answer) (born_some has_line (birth es) r.1.0) (line_no_pad (birth es) r.1.0)
-pad_step es (Deq caller pipe number starting) given v r o = no_pad es (Deq caller pipe number starting) (born_some has_line (birth es) r.0.0) (line_no_pad (birth es) r.0.0)
+pad_step es (Enq caller pipe ask backlog answer) given v r o = no_pad es (Enq caller pipe ask backlog answer) (born_some has_queue (birth es) r.1.0) (queue_no_pad (birth es) r.1.0)
+pad_step es (Deq caller pipe number starting) given v r o = no_pad es (Deq caller pipe number starting) (born_some has_queue (birth es) r.0.0) (queue_no_pad (birth es) r.0.0)
 pad_step es (Done caller pipe number) given v r o = no_pad es (Done caller pipe number) (born_some is_serial (birth es) r.0) (queue_no_pad (birth es) r.0)
 pad_step es (Hold caller pipe) given v r o = pad_quiet es (Hold caller pipe) o (maker_some (birth es) caller r.0.1) refl (front-same es (Hold caller pipe) refl refl)
 pad_step es (Go caller pipe) given v r o = pad_quiet es (Go caller pipe) o (maker_some (birth es) caller r.0.1) refl (front-same es (Go caller pipe) refl refl)
@@ -98,8 +98,8 @@ queue_step es (Born caller pipe shape) r o = queue_born_first es caller pipe sha
 queue_step es (Submit caller pipe number ask) r o = queue_more es (Submit caller pipe number ask) o (born_some is_pad (birth es) r.1.0) refl
 queue_step es (Take caller pipe number) r o = queue_more es (Take caller pipe number) o (born_some has_lists (birth es) r.0.0) refl
 queue_step es (Finish caller pipe number) r o = no_queue es (Finish caller pipe number) r.0
-queue_step es (Enq caller pipe ask backlog answer) r o = queue_more es (Enq caller pipe ask backlog answer) o (born_some has_line (birth es) r.1.0) refl
-queue_step es (Deq caller pipe number starting) r o = queue_more es (Deq caller pipe number starting) o (born_some has_line (birth es) r.0.0) (queue_deq es caller pipe number starting)
+queue_step es (Enq caller pipe ask backlog answer) r o = queue_more es (Enq caller pipe ask backlog answer) o (born_some has_queue (birth es) r.1.0) refl
+queue_step es (Deq caller pipe number starting) r o = queue_more es (Deq caller pipe number starting) o (born_some has_queue (birth es) r.0.0) (queue_deq es caller pipe number starting)
 queue_step es (Done caller pipe number) r o = queue_more es (Done caller pipe number) o (born_some is_serial (birth es) r.0) refl
 queue_step es (Hold caller pipe) r o = queue_more es (Hold caller pipe) o (maker_some (birth es) caller r.0.1) refl
 queue_step es (Go caller pipe) r o = queue_more es (Go caller pipe) o (maker_some (birth es) caller r.0.1) refl

@@ -12,7 +12,7 @@ use Rattle.board.specs.Shapes.{is_born, width_born}
 use Rattle.board.specs.Entries.{is_of, entries_of, submissions, first, birth_in, birth, masked_in, mask, last_or, is_close, is_closed, is_share, is_shared, front, caller_of}
 use Rattle.board.specs.Legal.{IsRightFor, IsOpenAs, MayManage}
 use Rattle.board.specs.Order.{AreRightForAfter}
-use Rattle.board.specs.Sharing.{SharedStays, MakersFinish}
+use Rattle.board.specs.SharedPipelines.{SharedStays, MakersFinish}
 use Rattle.board.proofs.Transfer.{each_right}
 use Rattle.board.proofs.Closed.{closed_end}
 

@@ -15,20 +15,20 @@ use Rattle.board.specs.declared.entry.Entered.{Entered}
 use Rattle.board.specs.declared.entry.Entered.TheVariants.{InProgress, Busy, NoSpace}
 use Rattle.board.specs.declared.entry.BoardEntry.{BoardEntry}
 use Rattle.board.specs.declared.entry.BoardEntry.TheVariants.{Born, Submit, Take, Finish, Enq, Deq, Done, Hold, Go, Collect, Close, Share, Mask, Shut}
-use Rattle.board.specs.Shapes.{is_pad, has_line, has_lists, pad_born, line_born, max_born}
+use Rattle.board.specs.Shapes.{is_pad, has_queue, has_lists, pad_born, has_queue_born, max_born}
 use Rattle.board.specs.Entries.{Notice, Starts, Completes, birth, accepted_in, submissions, dequeued_in, dequeues, dequeued, passed_on, finished_in, has, front, completes_from, tells, told}
 use Rattle.board.specs.Legal.{IsRightFor}
 use Rattle.board.specs.Order.{handed_in, AreRightForAfter, completed_in, completed, backlogged_in, backlogged, started_in, started, times}
 use Rattle.board.proofs.Lists.{filter_map-none, filter_map-some, has-more, more_cases}
 use Rattle.board.proofs.Fronts.{front_is_finished, front_grows, none_started}
-use Rattle.board.proofs.Keeping.{birth_stays, born_some, maker_some, queue_has_line, not_both, AreNumbered, IsOrderly, orderly_start, orderly_step, front-same, front-accepted, told-more, runs_next, front_done}
+use Rattle.board.proofs.Keeping.{birth_stays, born_some, maker_some, has_queue_of_queue, not_both, AreNumbered, IsOrderly, orderly_start, orderly_step, front-same, front-accepted, told-more, runs_next, front_done}
 
--- What a queue has told, by numbers: it accepted s requests, of which t were taken and f finished, and those in bs came into
--- the backlog. Each number of the backlog that is among the first max that wait, or was taken, was told just once to have
--- started, and before its completion.
+-- What a queue has told, by numbers: it accepted s requests, of which t were taken and f finished, and those in bs came
+-- into the backlog. Each number of the backlog that is among the first max that wait, or was taken, was told just once
+-- to have started, and before its completion.
 pub record IsTelling (max s t f : ℕ) (bs : List ℕ) (ns : List Notice) : Type 0 where
   pub few : f ≤ t
-  pub in_line : t ≤ s
+  pub queued : t ≤ s
   pub low : (n : ℕ) → has n bs ≡ true → n < s
   pub beyond : (n : ℕ) → t + max ≤ n → n < s → has n bs ≡ true
   pub alone : (n : ℕ) → has n (started ns) ≡ true → (has n bs ≡ true) × (n < t + max)
@@ -84,7 +84,7 @@ completes_at (Completes m ∷ ns) (suc k) n h = or_right (m == n) (has n (comple
 telling_start : (max : ℕ) → IsTelling max 0 0 0 [] []
 telling_start max = record {
   few = omega arith;
-  in_line = omega arith;
+  queued = omega arith;
   low = λ n h. cc;
   beyond = λ n a b. absurd (omega arith);
   alone = λ n h. cc;
@@ -109,12 +109,12 @@ all_busy bs ns max s t n g l old (inr e) = absurd (omega arith)
 
 before_busy : (bs : List ℕ) (ns : List Notice) (max s t f n k : ℕ) → IsTelling max s t f bs ns → slice_get ns k ≡ Some (Completes n) → (has n bs ≡ true) ⊎ (s ≡ n) → times n (started (take k ns)) ≡ 1
 before_busy bs ns max s t f n k o g (inl h) = o.before n k h g
-before_busy bs ns max s t f n k o g (inr e) = (let l = o.done n (completes_at ns k n g) in let a = o.few in let b = o.in_line in absurd (omega arith))
+before_busy bs ns max s t f n k o g (inr e) = (let l = o.done n (completes_at ns k n g) in let a = o.few in let b = o.queued in absurd (omega arith))
 
 telling_busy : (max s t f : ℕ) (bs : List ℕ) (ns : List Notice) → IsTelling max s t f bs ns → t + max ≤ s → IsTelling max (s + 1) t f (bs ++ s ∷ []) ns
 telling_busy max s t f bs ns o g = record {
   few = o.few;
-  in_line = (let l = o.in_line in omega arith);
+  queued = (let l = o.queued in omega arith);
   low = λ n h. low_busy bs s n o.low (more_cases bs s n h);
   beyond = λ n a b. beyond_busy bs s n b (λ l. o.beyond n a l) (cases_lt n s);
   alone = λ n h. (has_left bs s n (o.alone n h).0, (o.alone n h).1);
@@ -128,7 +128,7 @@ telling_busy max s t f bs ns o g = record {
 telling_progress : (max s t f : ℕ) (bs : List ℕ) (ns : List Notice) → IsTelling max s t f bs ns → s < t + max → IsTelling max (s + 1) t f bs ns
 telling_progress max s t f bs ns o g = record {
   few = o.few;
-  in_line = (let l = o.in_line in omega arith);
+  queued = (let l = o.queued in omega arith);
   low = λ n h. (let l = o.low n h in omega arith);
   beyond = λ n a b. absurd (omega arith);
   alone = o.alone;
@@ -142,7 +142,7 @@ telling_progress max s t f bs ns o g = record {
 telling_deq : (max s t f : ℕ) (bs : List ℕ) (ns : List Notice) → IsTelling max s t f bs ns → t < s → s ≤ t + max → IsTelling max s (t + 1) f bs ns
 telling_deq max s t f bs ns o l g = record {
   few = (let a = o.few in omega arith);
-  in_line = omega arith;
+  queued = omega arith;
   low = o.low;
   beyond = λ n a b. absurd (omega arith);
   alone = λ n h. ((o.alone n h).0, (let q = (o.alone n h).1 in omega arith));
@@ -182,7 +182,7 @@ telling_starts max s t f bs ns o g =
     let co : completed (ns ++ Starts (t + max) ∷ []) ≡ completed ns = filter_map-none completed_in ns (Starts (t + max)) refl in
     record {
       few = (let a = o.few in omega arith);
-      in_line = omega arith;
+      queued = omega arith;
       low = o.low;
       beyond = λ n a b. o.beyond n (omega arith) b;
       alone = λ n h. alone_starts bs ns max s t f n o g (more_cases (started ns) (t + max) n (subst (λ xs. has n xs ≡ true) st h));
@@ -214,7 +214,7 @@ telling_done max s t f bs ns o g =
     let co : completed (ns ++ Completes f ∷ []) ≡ completed ns ++ f ∷ [] = filter_map-some completed_in ns (Completes f) f refl in
     record {
       few = omega arith;
-      in_line = o.in_line;
+      queued = o.queued;
       low = o.low;
       beyond = o.beyond;
       alone = λ n h. o.alone n (subst (λ xs. has n xs ≡ true) st h);
@@ -238,17 +238,17 @@ front_passed_cases : (f p : ℕ) → (p < f) ⊎ (f ≤ p) → (p < f → p < p)
 front_passed_cases f p (inl l) h = (let q = h l in absurd (omega arith))
 front_passed_cases f p (inr g) h = g
 
--- the front is not past the line
+-- the front is not past the queue
 pub front_passed : {A : Type 0} (es : List (BoardEntry A)) → AreNumbered es → front es ≤ passed_on es
 front_passed es o = front_passed_cases (front es) (passed_on es) (cases_lt (passed_on es) (front es)) (λ l. o.done (passed_on es) (front_is_finished es (passed_on es) l))
 
 same_telling : (max max2 s s2 t t2 f : ℕ) (bs bs2 : List ℕ) (ns ns2 : List Notice) → max2 ≡ max → s2 ≡ s → t2 ≡ t → bs2 ≡ bs → ns2 ≡ ns → IsTelling max s t f bs ns → IsTelling max2 s2 t2 f bs2 ns2
 same_telling max max2 s s2 t t2 f bs bs2 ns ns2 a b c d e o = rw (a, b, c, d, e) o
 
--- what a pipeline told of those that it accepted into its backlog; without a line, nothing
+-- what a pipeline told of those that it accepted into its backlog; without a queue, nothing
 pub record IsStarting {A : Type 0} (es : List (BoardEntry A)) : Type 0 where
-  pub line : line_born (birth es) ≡ true → IsTelling (max_born (birth es)) (length (submissions es)) (dequeued es) (front es) (backlogged es) (told es)
-  pub none : line_born (birth es) ≡ false → (started (told es) ≡ []) × (backlogged es ≡ [])
+  pub server : has_queue_born (birth es) ≡ true → IsTelling (max_born (birth es)) (length (submissions es)) (dequeued es) (front es) (backlogged es) (told es)
+  pub none : has_queue_born (birth es) ≡ false → (started (told es) ≡ []) × (backlogged es ≡ [])
 
 starting_quiet : {A : Type 0} (es : List (BoardEntry A)) (e : BoardEntry A) → IsStarting es → is_some (birth es) ≡ true → accepted_in e ≡ None → dequeued_in e ≡ None → finished_in e ≡ None → tells es e ≡ [] → backlogged_in e ≡ None → IsStarting (es ++ e ∷ [])
 starting_quiet es e o b a d f n c =
@@ -259,15 +259,15 @@ starting_quiet es e o b a d f n c =
     let ne : told (es ++ e ∷ []) ≡ told es = told-more es e ∙ (ap (λ ns. told es ++ ns) n ∙ append-nil (told es)) in
     let ce : backlogged (es ++ e ∷ []) ≡ backlogged es = filter_map-none backlogged_in es e c in
     record {
-      line = λ h. rw (be, fe, se, de, ne, ce) (o.line (sym (ap line_born be) ∙ h));
-      none = λ h. rw (ne, ce) (o.none (sym (ap line_born be) ∙ h));
+      server = λ h. rw (be, fe, se, de, ne, ce) (o.server (sym (ap has_queue_born be) ∙ h));
+      none = λ h. rw (ne, ce) (o.none (sym (ap has_queue_born be) ∙ h));
     }
 
-pub pad_no_line : (b : Option (ℕ × Shape)) → pad_born b ≡ true → line_born b ≡ false
-pad_no_line None h = cc
-pad_no_line (Some (maker, shape.Pad lists)) h = refl
-pad_no_line (Some (maker, shape.Queue max)) h = cc
-pad_no_line (Some (maker, shape.Chain max lists)) h = cc
+pub pad_no_queue : (b : Option (ℕ × Shape)) → pad_born b ≡ true → has_queue_born b ≡ false
+pad_no_queue None h = cc
+pad_no_queue (Some (maker, shape.Pad lists)) h = refl
+pad_no_queue (Some (maker, shape.Queue max)) h = cc
+pad_no_queue (Some (maker, shape.Chain max lists)) h = cc
 
 starting_submit : {A : Type 0} (es : List (BoardEntry A)) (caller pipe number : ℕ) (ask : Arc A Global) → IsStarting es → pad_born (birth es) ≡ true → IsStarting (es ++ Submit caller pipe number ask ∷ [])
 starting_submit {A} es caller pipe number ask o pad =
@@ -276,8 +276,8 @@ starting_submit {A} es caller pipe number ask o pad =
     let ne : told (es ++ e ∷ []) ≡ told es = told-more es e ∙ append-nil (told es) in
     let ce : backlogged (es ++ e ∷ []) ≡ backlogged es = filter_map-none backlogged_in es e refl in
     record {
-      line = λ h. absurd (not_both (line_born (birth es)) (sym (ap line_born be) ∙ h) (pad_no_line (birth es) pad));
-      none = λ h. rw (ne, ce) (o.none (sym (ap line_born be) ∙ h));
+      server = λ h. absurd (not_both (has_queue_born (birth es)) (sym (ap has_queue_born be) ∙ h) (pad_no_queue (birth es) pad));
+      none = λ h. rw (ne, ce) (o.none (sym (ap has_queue_born be) ∙ h));
     }
 
 starting_finish : {A : Type 0} (es : List (BoardEntry A)) (caller pipe number : ℕ) → IsStarting es → is_some (birth es) ≡ true → AreNumbered (es ++ Finish caller pipe number ∷ []) → IsStarting (es ++ Finish caller pipe number ∷ [])
@@ -293,17 +293,17 @@ starting_finish {A} es caller pipe number o b v =
     let q : front es + k ≡ front (es ++ e ∷ []) = omega arith in
     let past = front_passed (es ++ e ∷ []) v in
     record {
-      line = λ h.
+      server = λ h.
           (let p : passed_on (es ++ e ∷ []) ≡ dequeued (es ++ e ∷ []) = ap (λ c. cond c (dequeued (es ++ e ∷ [])) (length (submissions (es ++ e ∷ [])))) h in
           let d : dequeued (es ++ e ∷ []) ≡ dequeued es = ap length de in
-          let many = telling_many (max_born (birth es)) (length (submissions es)) (dequeued es) (front es) k (backlogged es) (told es) (o.line (sym (ap line_born be) ∙ h)) (omega arith) in
+          let many = telling_many (max_born (birth es)) (length (submissions es)) (dequeued es) (front es) k (backlogged es) (told es) (o.server (sym (ap has_queue_born be) ∙ h)) (omega arith) in
           let now = subst (λ f. IsTelling (max_born (birth es)) (length (submissions es)) (dequeued es) f (backlogged es) (told es ++ completes_from (front es) k)) q many in
           same_telling (max_born (birth es)) (max_born (birth (es ++ e ∷ []))) (length (submissions es)) (length (submissions (es ++ e ∷ []))) (dequeued es) (dequeued (es ++ e ∷ [])) (front (es ++ e ∷ [])) (backlogged es) (backlogged (es ++ e ∷ [])) (told es ++ tells es e) (told (es ++ e ∷ [])) (ap max_born be) (ap length se) d ce ne now);
-      none = λ h. (let old = o.none (sym (ap line_born be) ∙ h) in rw (ne, ce) (filter_map-append started_in (told es) (tells es e) ∙ (ap (λ ns. ns ++ started (tells es e)) old.0 ∙ none_started (front es) k), old.1));
+      none = λ h. (let old = o.none (sym (ap has_queue_born be) ∙ h) in rw (ne, ce) (filter_map-append started_in (told es) (tells es e) ∙ (ap (λ ns. ns ++ started (tells es e)) old.0 ∙ none_started (front es) k), old.1));
     }
 
 starting_born : {A : Type 0} (es : List (BoardEntry A)) (caller pipe : ℕ) (shape : Shape) → es ≡ [] → IsStarting (es ++ Born caller pipe shape ∷ [])
-starting_born [] caller pipe shape n = record { line = λ h. telling_start (max_born (Some (caller, shape))); none = λ h. (refl, refl) }
+starting_born [] caller pipe shape n = record { server = λ h. telling_start (max_born (Some (caller, shape))); none = λ h. (refl, refl) }
 starting_born (x ∷ es) caller pipe shape n = cc
 
 progress_below : (b backlog : Bool) (n m : ℕ) → InProgress m ≡ cond b (InProgress n) (cond backlog (Busy n) NoSpace) → b ≡ true
@@ -316,9 +316,9 @@ busy_beyond true backlog n m h = cc
 busy_beyond false true n m h = (refl, (let e : m ≡ n = cc in e))
 busy_beyond false false n m h = cc
 
-starting_progress : {A : Type 0} (es : List (BoardEntry A)) (e : BoardEntry A) (a : A) → IsStarting es → AreNumbered es → line_born (birth es) ≡ true → accepted_in e ≡ Some a → dequeued_in e ≡ None → finished_in e ≡ None → tells es e ≡ [] → backlogged_in e ≡ None → nat_lt (length (submissions es) - dequeued es) (max_born (birth es)) ≡ true → IsStarting (es ++ e ∷ [])
+starting_progress : {A : Type 0} (es : List (BoardEntry A)) (e : BoardEntry A) (a : A) → IsStarting es → AreNumbered es → has_queue_born (birth es) ≡ true → accepted_in e ≡ Some a → dequeued_in e ≡ None → finished_in e ≡ None → tells es e ≡ [] → backlogged_in e ≡ None → nat_lt (length (submissions es) - dequeued es) (max_born (birth es)) ≡ true → IsStarting (es ++ e ∷ [])
 starting_progress es e a o v q ac d f n c below =
-    let be = birth_stays es e (born_some has_line (birth es) q) in
+    let be = birth_stays es e (born_some has_queue (birth es) q) in
     let se : submissions (es ++ e ∷ []) ≡ submissions es ++ a ∷ [] = filter_map-some accepted_in es e a ac in
     let sl : length (submissions es ++ a ∷ []) ≡ length (submissions es) + 1 = length-append (submissions es) (a ∷ []) in
     let de : dequeues (es ++ e ∷ []) ≡ dequeues es = filter_map-none dequeued_in es e d in
@@ -327,13 +327,13 @@ starting_progress es e a o v q ac d f n c below =
     let ce : backlogged (es ++ e ∷ []) ≡ backlogged es = filter_map-none backlogged_in es e c in
     let l : length (submissions es) - dequeued es < max_born (birth es) = grind arith in
     record {
-      line = λ h. rw (be, fe, se, sl, de, ne, ce) (telling_progress (max_born (birth es)) (length (submissions es)) (dequeued es) (front es) (backlogged es) (told es) (o.line q) (omega arith));
-      none = λ h. absurd (not_both (line_born (birth es)) q (sym (ap line_born be) ∙ h));
+      server = λ h. rw (be, fe, se, sl, de, ne, ce) (telling_progress (max_born (birth es)) (length (submissions es)) (dequeued es) (front es) (backlogged es) (told es) (o.server q) (omega arith));
+      none = λ h. absurd (not_both (has_queue_born (birth es)) q (sym (ap has_queue_born be) ∙ h));
     }
 
-starting_busy : {A : Type 0} (es : List (BoardEntry A)) (e : BoardEntry A) (a : A) (m : ℕ) → IsStarting es → AreNumbered es → line_born (birth es) ≡ true → accepted_in e ≡ Some a → dequeued_in e ≡ None → finished_in e ≡ None → tells es e ≡ [] → backlogged_in e ≡ Some m → nat_lt (length (submissions es) - dequeued es) (max_born (birth es)) ≡ false → m ≡ length (submissions es) → IsStarting (es ++ e ∷ [])
+starting_busy : {A : Type 0} (es : List (BoardEntry A)) (e : BoardEntry A) (a : A) (m : ℕ) → IsStarting es → AreNumbered es → has_queue_born (birth es) ≡ true → accepted_in e ≡ Some a → dequeued_in e ≡ None → finished_in e ≡ None → tells es e ≡ [] → backlogged_in e ≡ Some m → nat_lt (length (submissions es) - dequeued es) (max_born (birth es)) ≡ false → m ≡ length (submissions es) → IsStarting (es ++ e ∷ [])
 starting_busy es e a m o v q ac d f n c beyond at =
-    let be = birth_stays es e (born_some has_line (birth es) q) in
+    let be = birth_stays es e (born_some has_queue (birth es) q) in
     let se : submissions (es ++ e ∷ []) ≡ submissions es ++ a ∷ [] = filter_map-some accepted_in es e a ac in
     let sl : length (submissions es ++ a ∷ []) ≡ length (submissions es) + 1 = length-append (submissions es) (a ∷ []) in
     let de : dequeues (es ++ e ∷ []) ≡ dequeues es = filter_map-none dequeued_in es e d in
@@ -341,10 +341,10 @@ starting_busy es e a m o v q ac d f n c beyond at =
     let ne : told (es ++ e ∷ []) ≡ told es = told-more es e ∙ (ap (λ ns. told es ++ ns) n ∙ append-nil (told es)) in
     let ce : backlogged (es ++ e ∷ []) ≡ backlogged es ++ m ∷ [] = filter_map-some backlogged_in es e m c in
     let l : max_born (birth es) ≤ length (submissions es) - dequeued es = grind arith in
-    let i = (o.line q).in_line in
+    let i = (o.server q).queued in
     record {
-      line = λ h. rw (be, fe, se, sl, de, ne, ce, at) (telling_busy (max_born (birth es)) (length (submissions es)) (dequeued es) (front es) (backlogged es) (told es) (o.line q) (omega arith));
-      none = λ h. absurd (not_both (line_born (birth es)) q (sym (ap line_born be) ∙ h));
+      server = λ h. rw (be, fe, se, sl, de, ne, ce, at) (telling_busy (max_born (birth es)) (length (submissions es)) (dequeued es) (front es) (backlogged es) (told es) (o.server q) (omega arith));
+      none = λ h. absurd (not_both (has_queue_born (birth es)) q (sym (ap has_queue_born be) ∙ h));
     }
 
 starting_enq : {A : Type 0} (es : List (BoardEntry A)) (answer : Entered) (caller pipe : ℕ) (ask : Arc A Global) (backlog : Bool) → IsStarting es → AreNumbered es → IsRightFor es (Enq caller pipe ask backlog answer) → IsStarting (es ++ Enq caller pipe ask backlog answer ∷ [])
@@ -353,7 +353,7 @@ starting_enq es (InProgress m) caller pipe ask backlog o v r =
 starting_enq es (Busy m) caller pipe ask backlog o v r =
     let b = busy_beyond (nat_lt (length (submissions es) - dequeued es) (max_born (birth es))) backlog (length (submissions es)) m r.2 in
     starting_busy es (Enq caller pipe ask backlog (Busy m)) (arc_value ask) m o v r.1.0 refl refl refl refl refl b.0 b.1
-starting_enq es NoSpace caller pipe ask backlog o v r = starting_quiet es (Enq caller pipe ask backlog NoSpace) o (born_some has_line (birth es) r.1.0) refl refl refl refl refl
+starting_enq es NoSpace caller pipe ask backlog o v r = starting_quiet es (Enq caller pipe ask backlog NoSpace) o (born_some has_queue (birth es) r.1.0) refl refl refl refl refl
 
 no_start : (b : Bool) (n : ℕ) → None ≡ cond b (Some n) None → b ≡ false
 no_start true n h = cc
@@ -367,7 +367,7 @@ starting_deq : {A : Type 0} (es : List (BoardEntry A)) (starting : Option ℕ) (
 starting_deq {A} es None caller pipe number o r =
     let e : BoardEntry A = Deq caller pipe number None in
     let q = r.0.0 in
-    let be = birth_stays es e (born_some has_line (birth es) q) in
+    let be = birth_stays es e (born_some has_queue (birth es) q) in
     let fe : front (es ++ e ∷ []) ≡ front es = front-same es e refl refl in
     let se : submissions (es ++ e ∷ []) ≡ submissions es = filter_map-none accepted_in es e refl in
     let de : dequeues (es ++ e ∷ []) ≡ dequeues es ++ (number, caller) ∷ [] = filter_map-some dequeued_in es e (number, caller) refl in
@@ -379,13 +379,13 @@ starting_deq {A} es None caller pipe number o r =
     let b = no_start (nat_lt (number + max_born (birth es)) (length (submissions es))) (number + max_born (birth es)) r.5 in
     let l : length (submissions es) ≤ number + max_born (birth es) = grind arith in
     record {
-      line = λ h. rw (be, fe, se, de, dl, ne, ce) (telling_deq (max_born (birth es)) (length (submissions es)) (dequeued es) (front es) (backlogged es) (told es) (o.line q) (omega arith) (omega arith));
-      none = λ h. absurd (not_both (line_born (birth es)) q (sym (ap line_born be) ∙ h));
+      server = λ h. rw (be, fe, se, de, dl, ne, ce) (telling_deq (max_born (birth es)) (length (submissions es)) (dequeued es) (front es) (backlogged es) (told es) (o.server q) (omega arith) (omega arith));
+      none = λ h. absurd (not_both (has_queue_born (birth es)) q (sym (ap has_queue_born be) ∙ h));
     }
 starting_deq {A} es (Some m) caller pipe number o r =
     let e : BoardEntry A = Deq caller pipe number (Some m) in
     let q = r.0.0 in
-    let be = birth_stays es e (born_some has_line (birth es) q) in
+    let be = birth_stays es e (born_some has_queue (birth es) q) in
     let fe : front (es ++ e ∷ []) ≡ front es = front-same es e refl refl in
     let se : submissions (es ++ e ∷ []) ≡ submissions es = filter_map-none accepted_in es e refl in
     let de : dequeues (es ++ e ∷ []) ≡ dequeues es ++ (number, caller) ∷ [] = filter_map-some dequeued_in es e (number, caller) refl in
@@ -398,15 +398,15 @@ starting_deq {A} es (Some m) caller pipe number o r =
     let l : number + max_born (birth es) < length (submissions es) = grind arith in
     let ma : m ≡ dequeued es + max_born (birth es) = b.1 ∙ ap (λ n. n + max_born (birth es)) at in
     record {
-      line = λ h. rw (be, fe, se, de, dl, ne, ce, ma) (telling_starts (max_born (birth es)) (length (submissions es)) (dequeued es) (front es) (backlogged es) (told es) (o.line q) (omega arith));
-      none = λ h. absurd (not_both (line_born (birth es)) q (sym (ap line_born be) ∙ h));
+      server = λ h. rw (be, fe, se, de, dl, ne, ce, ma) (telling_starts (max_born (birth es)) (length (submissions es)) (dequeued es) (front es) (backlogged es) (told es) (o.server q) (omega arith));
+      none = λ h. absurd (not_both (has_queue_born (birth es)) q (sym (ap has_queue_born be) ∙ h));
     }
 
 starting_done : {A : Type 0} (es : List (BoardEntry A)) (caller pipe number : ℕ) → IsStarting es → AreNumbered es → IsRightFor es (Done caller pipe number) → IsStarting (es ++ Done caller pipe number ∷ [])
 starting_done {A} es caller pipe number o v r =
     let e : BoardEntry A = Done caller pipe number in
-    let q = queue_has_line (birth es) r.0 in
-    let be = birth_stays es e (born_some has_line (birth es) q) in
+    let q = has_queue_of_queue (birth es) r.0 in
+    let be = birth_stays es e (born_some has_queue (birth es) q) in
     let next = runs_next es number caller v r.0 r.1 r.2 in
     let fronts = front_done es caller pipe number v r.0 next.0 next.1 in
     let high = next.1 in
@@ -417,8 +417,8 @@ starting_done {A} es caller pipe number o v r =
     let ne : told (es ++ e ∷ []) ≡ told es ++ Completes (front es) ∷ [] = told-more es e ∙ ap (λ n. told es ++ Completes n ∷ []) at in
     let ce : backlogged (es ++ e ∷ []) ≡ backlogged es = filter_map-none backlogged_in es e refl in
     record {
-      line = λ h. rw (be, fe, se, de, ne, ce) (telling_done (max_born (birth es)) (length (submissions es)) (dequeued es) (front es) (backlogged es) (told es) (o.line q) (omega arith));
-      none = λ h. absurd (not_both (line_born (birth es)) q (sym (ap line_born be) ∙ h));
+      server = λ h. rw (be, fe, se, de, ne, ce) (telling_done (max_born (birth es)) (length (submissions es)) (dequeued es) (front es) (backlogged es) (told es) (o.server q) (omega arith));
+      none = λ h. absurd (not_both (has_queue_born (birth es)) q (sym (ap has_queue_born be) ∙ h));
     }
 
 starting_step : {A : Type 0} (es : List (BoardEntry A)) (e : BoardEntry A) (given : List Notice) → IsOrderly es given → IsStarting es → IsRightFor es e → IsStarting (es ++ e ∷ [])
@@ -444,7 +444,7 @@ starting_run before (e ∷ es) given v o r =
 
 -- what a pipeline told whose own entries are right
 pub starting : {A : Type 0} (es : List (BoardEntry A)) → AreRightForAfter [] es → IsStarting es
-starting es r = starting_run [] es [] orderly_start (record { line = λ h. cc; none = λ h. (refl, refl) }) r
+starting es r = starting_run [] es [] orderly_start (record { server = λ h. cc; none = λ h. (refl, refl) }) r
 
 -- ---- the laws
 
@@ -452,23 +452,23 @@ either : (b : Bool) → (b ≡ true) ⊎ (b ≡ false)
 either true = inl refl
 either false = inr refl
 
-alone_by : {A : Type 0} (es : List (BoardEntry A)) (n : ℕ) → IsStarting es → (line_born (birth es) ≡ true) ⊎ (line_born (birth es) ≡ false) → has n (started (told es)) ≡ true → has n (backlogged es) ≡ true
-alone_by es n o (inl l) h = ((o.line l).alone n h).0
+alone_by : {A : Type 0} (es : List (BoardEntry A)) (n : ℕ) → IsStarting es → (has_queue_born (birth es) ≡ true) ⊎ (has_queue_born (birth es) ≡ false) → has n (started (told es)) ≡ true → has n (backlogged es) ≡ true
+alone_by es n o (inl l) h = ((o.server l).alone n h).0
 alone_by es n o (inr l) h = (let g : has n [] ≡ true = subst (λ ns. has n ns ≡ true) (o.none l).0 h in cc)
 
 pub alone : {A : Type 0} (es : List (BoardEntry A)) (n : ℕ) → AreRightForAfter [] es → has n (started (told es)) ≡ true → has n (backlogged es) ≡ true
-alone es n r h = alone_by es n (starting es r) (either (line_born (birth es))) h
+alone es n r h = alone_by es n (starting es r) (either (has_queue_born (birth es))) h
 
-once_by : {A : Type 0} (es : List (BoardEntry A)) (n : ℕ) → IsStarting es → (line_born (birth es) ≡ true) ⊎ (line_born (birth es) ≡ false) → times n (started (told es)) ≤ 1
-once_by es n o (inl l) = (o.line l).once n
+once_by : {A : Type 0} (es : List (BoardEntry A)) (n : ℕ) → IsStarting es → (has_queue_born (birth es) ≡ true) ⊎ (has_queue_born (birth es) ≡ false) → times n (started (told es)) ≤ 1
+once_by es n o (inl l) = (o.server l).once n
 once_by es n o (inr l) = rw (o.none l).0 (omega arith)
 
 pub once : {A : Type 0} (es : List (BoardEntry A)) (n : ℕ) → AreRightForAfter [] es → times n (started (told es)) ≤ 1
-once es n r = once_by es n (starting es r) (either (line_born (birth es)))
+once es n r = once_by es n (starting es r) (either (has_queue_born (birth es)))
 
-before_by : {A : Type 0} (es : List (BoardEntry A)) (n k : ℕ) → IsStarting es → (line_born (birth es) ≡ true) ⊎ (line_born (birth es) ≡ false) → has n (backlogged es) ≡ true → slice_get (told es) k ≡ Some (Completes n) → times n (started (take k (told es))) ≡ 1
-before_by es n k o (inl l) h at = (o.line l).before n k h at
+before_by : {A : Type 0} (es : List (BoardEntry A)) (n k : ℕ) → IsStarting es → (has_queue_born (birth es) ≡ true) ⊎ (has_queue_born (birth es) ≡ false) → has n (backlogged es) ≡ true → slice_get (told es) k ≡ Some (Completes n) → times n (started (take k (told es))) ≡ 1
+before_by es n k o (inl l) h at = (o.server l).before n k h at
 before_by es n k o (inr l) h at = (let g : has n [] ≡ true = subst (λ ns. has n ns ≡ true) (o.none l).1 h in cc)
 
 pub before : {A : Type 0} (es : List (BoardEntry A)) (n k : ℕ) → AreRightForAfter [] es → has n (backlogged es) ≡ true → slice_get (told es) k ≡ Some (Completes n) → times n (started (take k (told es))) ≡ 1
-before es n k r h at = before_by es n k (starting es r) (either (line_born (birth es))) h at
+before es n k r h at = before_by es n k (starting es r) (either (has_queue_born (birth es))) h at

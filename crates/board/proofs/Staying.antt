@@ -13,7 +13,7 @@ use Rattle.board.specs.Shapes.{is_born, has_lists, queue_born}
 use Rattle.board.specs.Entries.{is_of, entries_of, birth_in, birth, first, starts, dequeued, dequeued_in, dequeues, held_in, is_held, accepted_in, submissions, taken_in, takings, takers, finished_in, finished, has, is_share, is_shared, masked_in, mask, meaning_at, caller_of, collected_in, collected, last_or, told, maker_is, IsMaker}
 use Rattle.board.specs.Legal.{IsRight, IsRightFor, AreRightAfter, MayFinish}
 use Rattle.board.specs.Order.{AreRightForAfter, numbers_below}
-use Rattle.board.specs.Staying.{Opens, StaysOpen, StaysManaged, StaysSubmitting, BornServed, Holds, StaysHeld, BornMasked, Masks, StaysMasked, SlipStays, CollectDrains, is_work, WorkLeaves, IsWorkOf, TakingIsWork, FinishingIsWork, PassingIsWork}
+use Rattle.board.specs.PipelineHistory.{Opens, StaysOpen, StaysManaged, StaysSubmitting, BornServed, Holds, StaysHeld, BornMasked, Masks, StaysMasked, SlipStays, CollectDrains, is_work, WorkLeaves, IsWorkOf, TakingIsWork, FinishingIsWork, PassingIsWork}
 use Rattle.board.proofs.Transfer.{before_last, right_for, entries-more, entries-same, each_right}
 use Rattle.board.proofs.Lists.{filter_map-none, filter_map-some, last_or-append, has-more, taker_among, has_only_below}
 use Rattle.board.proofs.Keeping.{birth_stays, lists_no_queue, born_some, maker_some, orderly, told-more, front-same}

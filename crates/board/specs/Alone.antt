@@ -2,11 +2,11 @@
 use Rattle.std.specs.Prelude.{◌≡◌, ℕ, ◌<◌, ◌≤◌, true, List, ◌++◌, length}
 use Rattle.std.specs.List.{list_all}
 use Rattle.turn_lock.specs.Turns.{Known, Has, Shows, of, sees, adds}
-use Rattle.turn_lock.specs.Meeting.{Meets}
+use Rattle.turn_lock.specs.PassLaws.{Meets}
 use Rattle.board.specs.declared.entry.BoardEntry.{BoardEntry}
 use Rattle.board.specs.Entries.{entries_of, submissions, front, caller_of}
 use Rattle.board.specs.Legal.{LegalBoard}
-use Rattle.board.specs.Staying.{is_work}
+use Rattle.board.specs.PipelineHistory.{is_work}
 
 module _ {A : Type 0} where
   -- the number has ended in this pass, with these entries

@@ -5,7 +5,7 @@ use Rattle.board.specs.declared.entry.BoardEntry.{BoardEntry}
 use Rattle.board.specs.declared.entry.BoardEntry.TheVariants.{Shut}
 use Rattle.board.specs.Entries.{entries_of, submissions, front, is_closed, caller_of}
 use Rattle.board.specs.Legal.{IsRight, LegalBoard, MayManage}
-use Rattle.board.specs.Staying.{is_work}
+use Rattle.board.specs.PipelineHistory.{is_work}
 use Rattle.turn_lock.specs.Turns.{Each}
 
 module _ {A : Type 0} where
@@ -13,7 +13,8 @@ module _ {A : Type 0} where
   abbrev pub IsAllFinished : List (BoardEntry A) → Type 0
   IsAllFinished h = (p : ℕ) → front (entries_of p h) ≡ length (submissions (entries_of p h))
 
-  -- A pipeline that is closed is finished. So each is where the only caller beside workers closed or finished all that it made.
+  -- A pipeline that is closed is finished. So each is where the only caller beside workers closed or finished all that
+  -- it made.
   abbrev pub AllIsFinished : List (BoardEntry A) → ℕ → Type 0
   AllIsFinished h caller =
       LegalBoard h → Each (λ e. (caller_of e ≡ caller) ⊎ (is_work e ≡ true)) h

@@ -9,7 +9,7 @@ use Rattle.board.specs.declared.entry.Entered.{Entered}
 use Rattle.board.specs.declared.entry.Entered.TheVariants.{InProgress, Busy, NoSpace}
 use Rattle.board.specs.declared.entry.BoardEntry.{BoardEntry}
 use Rattle.board.specs.declared.entry.BoardEntry.TheVariants.{Born, Submit, Take, Finish, Enq, Deq, Done, Hold, Go, Collect, Close, Share, Mask, Shut}
-use Rattle.board.specs.Shapes.{is_chain, is_born, queue_born, line_born, lists_born, max_born, width_born}
+use Rattle.board.specs.Shapes.{is_chain, is_born, queue_born, has_queue_born, lists_born, max_born, width_born}
 
 -- the pipeline whose entry it is
 abbrev pub pipe_of : {A : Type 0} → BoardEntry A → Option ℕ
@@ -64,7 +64,7 @@ accepted_in _ = None
 abbrev pub submissions : {A : Type 0} → List (BoardEntry A) → List A
 submissions es = filter_map accepted_in es
 
--- the numbers that left the line, each with who let it out
+-- the numbers that left the queue, each with who let it out
 abbrev pub dequeued_in : {A : Type 0} → BoardEntry A → Option (ℕ × ℕ)
 dequeued_in (Deq caller pipe number started) = Some (number, caller)
 dequeued_in _ = None
@@ -75,13 +75,13 @@ dequeues es = filter_map dequeued_in es
 abbrev pub dequeued : {A : Type 0} → List (BoardEntry A) → ℕ
 dequeued es = length (dequeues es)
 
--- how many wait in line
+-- how many wait in the queue
 abbrev pub waiting : {A : Type 0} → List (BoardEntry A) → ℕ
 waiting es = length (submissions es) - dequeued es
 
--- how many are past the line: on a pad all that were accepted
+-- how many are past the queue: on a pad all that were accepted
 abbrev pub passed_on : {A : Type 0} → List (BoardEntry A) → ℕ
-passed_on es = if line_born (birth es) then dequeued es else length (submissions es)
+passed_on es = if has_queue_born (birth es) then dequeued es else length (submissions es)
 
 -- the numbers that were taken off a pad, each with who took it
 abbrev pub taken_in : {A : Type 0} → BoardEntry A → Option (ℕ × ℕ)
@@ -117,13 +117,13 @@ unbroken ns n (suc many) = if has n ns then suc (unbroken ns (suc n) many) else 
 abbrev pub front : {A : Type 0} → List (BoardEntry A) → ℕ
 front es = unbroken (finished es) 0 (length (submissions es))
 
--- what a line answers to a request that comes now
+-- what a queue answers to a request that comes now
 abbrev pub verdict : {A : Type 0} → List (BoardEntry A) → Bool → Entered
 verdict es backlog =
     if nat_lt (waiting es) (max_born (birth es)) then InProgress (length (submissions es))
     else (if backlog then Busy (length (submissions es)) else NoSpace)
 
--- which request is told that it has started where the number n leaves the line
+-- which request is told that it has started where the number n leaves the queue
 abbrev pub starts : {A : Type 0} → List (BoardEntry A) → ℕ → Option ℕ
 starts es n =
     if nat_lt (n + max_born (birth es)) (length (submissions es)) then Some (n + max_born (birth es)) else None
@@ -153,8 +153,8 @@ abbrev pub completes_from : ℕ → ℕ → List Notice
 completes_from n zero = []
 completes_from n (suc many) = Completes n ∷ completes_from (suc n) many
 
--- what an entry tells after those before it: a Deq what it starts, a Done its completion, a Finish the completions from the
--- front before it up to the front after it
+-- what an entry tells after those before it: a Deq what it starts, a Done its completion, a Finish the completions from
+-- the front before it up to the front after it
 abbrev pub tells : {A : Type 0} → List (BoardEntry A) → BoardEntry A → List Notice
 tells es (Deq caller pipe number (Some started)) = Starts started ∷ []
 tells es (Done caller pipe number) = Completes number ∷ []
@@ -228,7 +228,7 @@ IsMaker es caller = maker_is (birth es) caller
 abbrev pub MayTake : {A : Type 0} → List (BoardEntry A) → ℕ → Type 0
 MayTake es caller = IsMaker es caller ⊎ ((has caller (submitters es) ≡ true) ⊎ IsMasked (mask es) caller)
 
--- each request past the line is taken
+-- each request past the queue is taken
 abbrev pub AllTaken : {A : Type 0} → List (BoardEntry A) → Type 0
 AllTaken es = (n : ℕ) → n < passed_on es → takers n es ≢ []
 
@@ -243,7 +243,7 @@ NoneFor h caller =
     → (lists_born (birth (entries_of p h)) ≡ true → MayTake (entries_of p h) caller → AllTaken (entries_of p h))
     × (queue_born (birth (entries_of p h)) ≡ true → IsHeldBusyOrEmpty (entries_of p h))
 
--- each chain is held, or none waits in its line
+-- each chain is held, or none waits in its queue
 abbrev pub NonePasses : {A : Type 0} → List (BoardEntry A) → Type 0
 NonePasses h =
     (p : ℕ) → is_born is_chain (birth (entries_of p h)) ≡ true → (is_held (entries_of p h) ≡ true) ⊎ (waiting (entries_of p h) ≡ 0)

@@ -3,7 +3,7 @@ use Rattle.std.specs.List.{filter_map, list_any}
 use Rattle.board.specs.declared.entry.Shape.{Shape}
 use Rattle.board.specs.declared.entry.BoardEntry.{BoardEntry}
 use Rattle.board.specs.declared.entry.BoardEntry.TheVariants.{Born, Submit, Take, Finish, Enq, Deq, Done, Hold, Go, Collect, Close, Share, Mask, Shut}
-use Rattle.board.specs.Shapes.{is_pad, has_line, has_lists, is_serial, is_born, width_born, IsShape}
+use Rattle.board.specs.Shapes.{is_pad, has_queue, has_lists, is_serial, is_born, width_born, IsShape}
 use Rattle.board.specs.Entries.{pipe_of, entries_of, birth_in, birth, submissions, dequeued, passed_on, waiting, takers, finished, has, meaning_at, front, verdict, starts, told, collected, is_held, is_closed, is_shared, mask, IsMaker, MayTake, caller_of}
 
 -- callers 1 to 16 are workers
@@ -28,7 +28,7 @@ IsOpenPad es = IsOpenAs is_pad es
 
 -- an open pipeline in front of which a queue stands
 abbrev pub IsOpenQueue : {A : Type 0} → List (BoardEntry A) → Type 0
-IsOpenQueue es = IsOpenAs has_line es
+IsOpenQueue es = IsOpenAs has_queue es
 
 -- an open pad, or an open queue or chain
 abbrev pub IsOpen : {A : Type 0} → List (BoardEntry A) → Type 0

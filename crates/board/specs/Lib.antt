@@ -13,10 +13,10 @@ pub mod Slips
 pub mod RunQueue
 pub mod Requests
 pub mod RunQueues
-pub mod Staying
-pub mod Handing
+pub mod PipelineHistory
+pub mod HandedOut
 pub mod Others
 pub mod Ends
-pub mod Following
-pub mod Sharing
+pub mod NextEntry
+pub mod SharedPipelines
 pub mod Alone

@@ -88,7 +88,7 @@ step_tells _ = None
 abbrev pub QueueTellsSteps : {A : Type 0} → List (BoardEntry A) → ℕ → Type 0
 QueueTellsSteps h q = LegalBoard h → Is is_serial (entries_of q h) → told (entries_of q h) ≡ filter_map step_tells (entries_of q h)
 
--- the numbers that a line accepted into its backlog
+-- the numbers that a queue accepted into its backlog
 abbrev pub backlogged_in : {A : Type 0} → BoardEntry A → Option ℕ
 backlogged_in (Enq caller pipe ask backlog (Busy number)) = Some number
 backlogged_in _ = None

@@ -7,7 +7,7 @@ use Rattle.board.specs.declared.entry.BoardEntry.{BoardEntry}
 use Rattle.board.specs.Entries.{entries_of, submissions, collected, is_held, is_shared, mask, caller_of}
 use Rattle.board.specs.Legal.{IsOpenAs, MaySubmit, MayManage, MayFinish, is_shut, LegalBoard}
 use Rattle.board.specs.Order.{handed_out}
-use Rattle.board.specs.Staying.{IsDrained, is_work}
+use Rattle.board.specs.PipelineHistory.{IsDrained, is_work}
 use Rattle.board.specs.Allowance.{accepted_by}
 
 -- entries of others than this caller come after a history
@@ -21,8 +21,8 @@ WorkComes h es caller = LegalBoard (h ++ es) × (list_all is_work (of caller_of 
 abbrev pub OthersAlone : {A : Type 0} → List (BoardEntry A) → List (BoardEntry A) → ℕ → Type 0
 OthersAlone h es caller = OthersCome h es caller → WorkComes h es caller
 
--- A pipeline of which this caller is the maker: who manages it, whether it is open, held and shared, its mask, and what was
--- collected from it, are as before; and where it isn't shared, what it accepted.
+-- A pipeline of which this caller is the maker: who manages it, whether it is open, held and shared, its mask, and what
+-- was collected from it, are as before; and where it isn't shared, what it accepted.
 pub record StaysKnown {A : Type 0} (h after : List (BoardEntry A)) (p caller : ℕ) : Type 0 where
   pub managed : MayManage (entries_of p after) caller
   pub opened : (such : Shape → Bool) → IsOpenAs such (entries_of p h) → IsOpenAs such (entries_of p after)

@@ -1,14 +1,14 @@
--- What a pipeline is made of. A queue of requests stands in front of a queue and of a chain; a pad, whose jobs run in any
--- order and come out in order, is all of a pad and the end of a chain.
+-- What a pipeline is made of. A queue of requests stands in front of a queue and of a chain; a pad, whose jobs run in
+-- any order and come out in order, is all of a pad and the end of a chain.
 use Rattle.std.specs.Prelude.{ℕ, Bool, true, false, ◌≤◌, Option, Some, None}
 use Rattle.board.specs.declared.entry.Shape.{Shape}
 use Rattle.board.specs.declared.entry.Shape.TheVariants.{Pad, Queue, Chain}
 
--- its requests wait in line
-abbrev pub has_line : Shape → Bool
-has_line (Pad lists) = false
-has_line (Queue max) = true
-has_line (Chain max lists) = true
+-- its requests wait in the queue
+abbrev pub has_queue : Shape → Bool
+has_queue (Pad lists) = false
+has_queue (Queue max) = true
+has_queue (Chain max lists) = true
 
 -- its jobs run in any order, and reorder lists put them in order
 abbrev pub has_lists : Shape → Bool
@@ -64,8 +64,8 @@ pad_born b = is_born is_pad b
 abbrev pub queue_born : Option (ℕ × Shape) → Bool
 queue_born b = is_born is_serial b
 
-abbrev pub line_born : Option (ℕ × Shape) → Bool
-line_born b = is_born has_line b
+abbrev pub has_queue_born : Option (ℕ × Shape) → Bool
+has_queue_born b = is_born has_queue b
 
 abbrev pub lists_born : Option (ℕ × Shape) → Bool
 lists_born b = is_born has_lists b

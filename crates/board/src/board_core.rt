@@ -42,7 +42,8 @@ impl From<AllocError> for BoardErr {
     }
 }
 
-/// Pipelines whose jobs any worker runs, and the history of all that happened on them. Contracts see it as that history.
+/// Pipelines whose jobs any worker runs, and the history of all that happened on them. Contracts see it as that
+/// history.
 #[derive(Drop)]
 pub struct BoardCore<W: Work> {
     pub(crate) alloc: Global,
@@ -51,9 +52,9 @@ pub struct BoardCore<W: Work> {
     pub(crate) pipes: BTreeMap<u64, Pipeline<W, W::Out>>,
     /// How many pipelines were made, and the number of the next.
     pub(crate) born: u64,
-    /// In the lines of those that may take from a pipeline it stands while it has a job.
+    /// In the run queues of those that may take from a pipeline it stands while it has a job.
     pub(crate) ready: RunQueues,
-    /// In line stands each chain of which a request may be passed on.
+    /// Queued is each chain of which a request may be passed on.
     pub(crate) passing: RunQueue,
     /// For how many entries room is kept in `log`, since they may not be refused for want of memory.
     pub(crate) owed: usize,
@@ -118,8 +119,8 @@ impl<W: Work> BoardCore<W> {
         })
     }
 
-    /// Lets others than the caller submit to a pipeline that it made, which isn't closed. Only want of memory refuses, and
-    /// leaves the board as it was.
+    /// Lets others than the caller submit to a pipeline that it made, which isn't closed. Only want of memory refuses,
+    /// and leaves the board as it was.
     pub fn share(&mut self, caller: u32, pipe: u64) -> Result<(), BoardErr>
         requires caller { MayManage (entries_of pipe self.old) caller }
         requires pipe { IsOpen (entries_of pipe self.old) }
@@ -134,8 +135,8 @@ impl<W: Work> BoardCore<W> {
         Ok(())
     }
 
-    /// Closes a pipeline that the caller made and shared with nobody, of which all is finished and handed out. No memory is
-    /// taken.
+    /// Closes a pipeline that the caller made and shared with nobody, of which all is finished and handed out. No
+    /// memory is taken.
     pub fn close(&mut self, caller: u32, pipe: u64)
         requires caller { MayManage (entries_of pipe self.old) caller }
         requires pipe { IsOpen (entries_of pipe self.old) }

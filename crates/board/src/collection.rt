@@ -13,9 +13,9 @@ use crate::work::Work;
 use kc_base::Callbacks;
 
 impl<W: Work> BoardCore<W> {
-    /// Hands out what a pipeline has told and no call handed out before, in the order in which it was told: of a pad or a
-    /// chain the completions up to the first request that isn't finished. The caller made the pipeline, which isn't closed. Only
-    /// want of memory refuses, and leaves all as it was.
+    /// Hands out what a pipeline has told and no call handed out before, in the order in which it was told: of a pad or
+    /// a chain the completions up to the first request that isn't finished. The caller made the pipeline, which isn't
+    /// closed. Only want of memory refuses, and leaves all as it was.
     pub fn poll(
         &mut self,
         caller: u32,
@@ -45,8 +45,8 @@ impl<W: Work> BoardCore<W> {
     }
 
     /// Where all requests of the pipeline are finished, answers true and hands out what no call handed out before, in
-    /// the order in which it was told. Otherwise it answers false and nothing happens. The caller made the pipeline, which
-    /// isn't closed. Only want of memory refuses, and leaves all as it was.
+    /// the order in which it was told. Otherwise it answers false and nothing happens. The caller made the pipeline,
+    /// which isn't closed. Only want of memory refuses, and leaves all as it was.
     pub fn try_drain(
         &mut self,
         caller: u32,

@@ -26,8 +26,8 @@ use std::alloc::AllocError;
 use std::collections::BTreeMap;
 
 impl<W: Work> BoardCore<W> {
-    /// Makes a pad of `lists` reorder lists, 1 to 16, from which the workers 1 to `lists` may take, and answers its number.
-    /// The caller is no worker. Only want of memory refuses, and leaves the board as it was.
+    /// Makes a pad of `lists` reorder lists, 1 to 16, from which the workers 1 to `lists` may take, and answers its
+    /// number. The caller is no worker. Only want of memory refuses, and leaves the board as it was.
     pub fn born_pad(&mut self, caller: u32, lists: u32) -> Result<u64, BoardErr>
         requires caller { IsNoWorker caller }
         requires some { 1 ≤ lists }
@@ -42,8 +42,8 @@ impl<W: Work> BoardCore<W> {
         self.born(caller, Shape::Pad(lists), full_mask(lists), Stage::Pad(pad))
     }
 
-    /// Makes a queue of which so many requests wait before its backlog begins, at least 1, and answers its number. The caller
-    /// is no worker. Only want of memory refuses, and leaves the board as it was.
+    /// Makes a queue of which so many requests wait before its backlog begins, at least 1, and answers its number. The
+    /// caller is no worker. Only want of memory refuses, and leaves the board as it was.
     pub fn born_queue(&mut self, caller: u32, max: u32) -> Result<u64, BoardErr>
         requires caller { IsNoWorker caller }
         requires max { 1 ≤ max }
@@ -57,9 +57,9 @@ impl<W: Work> BoardCore<W> {
         self.born(caller, Shape::Queue(max), full_mask(0), Stage::Queue(queue))
     }
 
-    /// Makes a chain, and answers its number: a queue of which so many requests wait before its backlog begins, at least 1,
-    /// and a pad of `lists` reorder lists, 1 to 16, to which they go on, and from which the workers 1 to `lists` may take.
-    /// The caller is no worker. Only want of memory refuses, and leaves the board as it was.
+    /// Makes a chain, and answers its number: a queue of which so many requests wait before its backlog begins, at
+    /// least 1, and a pad of `lists` reorder lists, 1 to 16, to which they go on, and from which the workers 1 to
+    /// `lists` may take. The caller is no worker. Only want of memory refuses, and leaves the board as it was.
     pub fn born_chain(&mut self, caller: u32, max: u32, lists: u32) -> Result<u64, BoardErr>
         requires caller { IsNoWorker caller }
         requires max { 1 ≤ max }
@@ -71,9 +71,9 @@ impl<W: Work> BoardCore<W> {
         ensures refused { IfErr result (λ e. e ≡ BoardErr.Memory) }
         ensures legal { LegalBoard self.new }
     {
-        let line = Cryptd::new(self.alloc, max);
+        let server = Cryptd::new(self.alloc, max);
         let pad = Padata::new(self.alloc, lists)?;
-        let chain = Chained { line, pad };
+        let chain = Chained { server, pad };
         self.born(
             caller,
             Shape::Chain(max, lists),
@@ -126,7 +126,8 @@ impl<W: Work> BoardCore<W> {
     }
 }
 
-/// Sets a new pipeline among the others, a member of the lines where it belongs. Want of memory leaves it out of all.
+/// Sets a new pipeline among the others, a member of the run queues where it belongs. Want of memory leaves it out of
+/// all.
 fn enter_board<J: Drop, F: Drop>(
     pipes: &mut BTreeMap<u64, Pipeline<J, F>>,
     ready: &mut RunQueues,
@@ -144,7 +145,7 @@ fn enter_board<J: Drop, F: Drop>(
     ensures owed { OnOk result (owed_by pipes.new ≡ owed_by pipes.old + owes new) }
     ensures unchanged { OnErr result (pipes.new.entries ≡ pipes.old.entries) }
 {
-    enter_lines(ready, passing, pipe, &new)?;
+    enter_run_queues(ready, passing, pipe, &new)?;
     let maker = new.maker;
     if pipes.insert(pipe, new).is_err() {
         ready.leave(maker, pipe);
@@ -154,8 +155,8 @@ fn enter_board<J: Drop, F: Drop>(
     Ok(())
 }
 
-/// Makes a new pipeline a member of the lines where it belongs. Want of memory leaves it out of all lines.
-fn enter_lines<J: Drop, F: Drop>(
+/// Makes a new pipeline a member of the run queues where it belongs. Want of memory leaves it out of all run queues.
+fn enter_run_queues<J: Drop, F: Drop>(
     ready: &mut RunQueues,
     passing: &mut RunQueue,
     pipe: u64,

@@ -10,8 +10,8 @@ pub enum Shape {
     Pad(u32),
     /// A queue: its jobs run one at a time, in order. So many requests wait before its backlog begins, at least 1.
     Queue(u32),
-    /// A chain: a queue of so many before its backlog begins, at least 1, whose requests go on to a pad within, of so many
-    /// reorder lists, 1 to 16.
+    /// A chain: a queue of so many before its backlog begins, at least 1, whose requests go on to a pad within, of so
+    /// many reorder lists, 1 to 16.
     Chain(u32, u32),
 }
 
@@ -26,8 +26,8 @@ pub enum Entered {
     NoSpace,
 }
 
-/// One event of a board. The pipelines are numbered from 0 as they are made, and the requests of each from 0 as they are
-/// accepted. The callers 1 to 16 are workers.
+/// One event of a board. The pipelines are numbered from 0 as they are made, and the requests of each from 0 as they
+/// are accepted. The callers 1 to 16 are workers.
 #[derive(Debug, Drop)]
 pub enum BoardEntry<A> {
     /// A pipeline is made.
@@ -63,8 +63,8 @@ pub enum BoardEntry<A> {
         backlog: bool,
         answer: Entered,
     },
-    /// The first request leaves a queue, to be run, or goes on to the pad within a chain. By that `started` has left the
-    /// backlog.
+    /// The first request leaves a queue, to be run, or goes on to the pad within a chain. By that `started` has left
+    /// the backlog.
     Deq {
         caller: u32,
         pipe: u64,

@@ -2,10 +2,10 @@
 
 ghost use Rattle.std.specs.Prelude.{ℕ, List};
 ghost use Rattle.board.specs.declared.entry.BoardEntry.{BoardEntry};
-ghost use Rattle.board.specs.Following.{GoesOn, EndsRight, IsRightAlone, AreRightAlone, IsOfOne, LeavesBirth, LeavesClosed, LeavesShared, LeavesCollected, LeavesSubmissions, LeavesFinished, LeavesFront, LeavesTakers, LeavesShut, LeaveInOrder, FinishesPassed, FrontIsPassed, RunsOneByOne};
+ghost use Rattle.board.specs.NextEntry.{GoesOn, EndsRight, IsRightAlone, AreRightAlone, IsOfOne, LeavesBirth, LeavesClosed, LeavesShared, LeavesCollected, LeavesSubmissions, LeavesFinished, LeavesFront, LeavesTakers, LeavesShut, LeaveInOrder, FinishesPassed, FrontIsPassed, RunsOneByOne};
 
-/// A legal history goes on by an entry that is right, and ends with one. An entry is of one pipeline at most, and is right there
-/// by that pipeline's own entries alone.
+/// A legal history goes on by an entry that is right, and ends with one. An entry is of one pipeline at most, and is
+/// right there by that pipeline's own entries alone.
 pub fn histories_go_on<A>()
     ensures more { (h : List (BoardEntry A)) (e : BoardEntry A) → GoesOn h e }
     ensures last { (h : List (BoardEntry A)) (e : BoardEntry A) → EndsRight h e }
@@ -27,8 +27,8 @@ pub fn entries_leave<A>()
     ensures shut { (h : List (BoardEntry A)) (e : BoardEntry A) → LeavesShut h e }
 {}
 
-/// In every legal history requests leave a line in the order in which they were accepted, only what is past the line is finished,
-/// and a queue runs one job at a time.
+/// In every legal history requests leave a queue in the order in which they were accepted, only what is past the queue
+/// is finished, and a queue runs one job at a time.
 pub fn numbers_in_order<A>()
     ensures leave { (h : List (BoardEntry A)) (p : ℕ) → LeaveInOrder h p }
     ensures finished { (h : List (BoardEntry A)) (p n : ℕ) → FinishesPassed h p n }

@@ -3,7 +3,7 @@
 ghost use Rattle.std.specs.Prelude.{◌≡◌, ◌≢◌, ℕ, ◌+◌, ◌<◌, ◌^◌, ◌≤◌, true, ◌&&◌, ◌||◌, ◌==◌, ◌++◌, length, OnOk, OnErr};
 ghost use Rattle.std.specs.Vec.{vec_len, vec_capacity};
 ghost use Rattle.board.specs.Entries.{has};
-ghost use Rattle.board.specs.Stages.{is_pad, has_line, HasRoom, IsPlaced, without_room, accepted_of, answer_of, after_entered, with_job, callbacks_of, collected_from};
+ghost use Rattle.board.specs.Stages.{is_pad, has_queue, HasRoom, IsPlaced, without_room, accepted_of, answer_of, after_entered, with_job, callbacks_of, collected_from};
 ghost use Rattle.board.specs.Pipelines.{IsSame, NotesCaller, is_accepted};
 
 use crate::entry::Entered;
@@ -38,10 +38,10 @@ impl<J: Drop, F: Drop> Pipeline<J, F> {
         number
     }
 
-    /// A queue or chain that has room for one answers a caller's request, and takes it in where it accepts it. Who submitted to a queue
-    /// isn't noted, since everybody serves it.
+    /// A queue or chain that has room for one answers a caller's request, and takes it in where it accepts it. Who
+    /// submitted to a queue isn't noted, since everybody serves it.
     pub(crate) fn enqueue(&mut self, caller: u32, job: J, backlog: bool) -> Entered
-        requires line { has_line self.old.stage ≡ true }
+        requires server { has_queue self.old.stage ≡ true }
         requires room { HasRoom self.old.stage }
         requires notes { vec_len self.old.submitters < vec_capacity self.old.submitters }
         requires few { accepted_of self.old.stage < 2 ^ 63 }
@@ -58,8 +58,8 @@ impl<J: Drop, F: Drop> Pipeline<J, F> {
         answer
     }
 
-    /// Hands out what was told and not collected, into a list that has room for it, and says how many callbacks were handed
-    /// out since the pipeline was made.
+    /// Hands out what was told and not collected, into a list that has room for it, and says how many callbacks were
+    /// handed out since the pipeline was made.
     pub(crate) fn collect(&mut self, into: &mut Callbacks<F>) -> u64
         requires room { length (callbacks_of self.old.stage) ≤ into.old.spare }
         requires few { self.old.collected + length (callbacks_of self.old.stage) < 2 ^ 64 }

@@ -12,8 +12,8 @@ use crate::work::Work;
 use request_queue::Served;
 use std::marker::Model;
 
-/// The right, and the duty, to finish one job. It can be given to `finish` alone: a value that is let go, or taken apart, is
-/// refused.
+/// The right, and the duty, to finish one job. It can be given to `finish` alone: a value that is let go, or taken
+/// apart, is refused.
 pub struct Slip {
     pipe: u64,
     number: u64,
@@ -43,9 +43,10 @@ pub struct Taken<W> {
 }
 
 impl<W: Work> BoardCore<W> {
-    /// Hands out a job of a pipeline that has one for this caller: of a pad, or of the pad within a chain, the first that nobody
-    /// has taken, where the caller made the pipeline, submitted to it, or is a worker in its mask; of a queue the first that
-    /// waits, where the queue is neither held nor busy. `None` exactly where there is none. No memory is taken.
+    /// Hands out a job of a pipeline that has one for this caller: of a pad, or of the pad within a chain, the first
+    /// that nobody has taken, where the caller made the pipeline, submitted to it, or is a worker in its mask; of a
+    /// queue the first that waits, where the queue is neither held nor busy. `None` exactly where there is none. No
+    /// memory is taken.
     pub fn take(&mut self, caller: u32) -> Option<Taken<W>>
         ensures taken { MatchOption result
             ((self.new ≡ self.old) × NoneFor self.old caller)
@@ -73,7 +74,8 @@ impl<W: Work> BoardCore<W> {
         })
     }
 
-    /// Records the outcome of a job that this caller took and hasn't finished: what the job's ask means. No memory is taken.
+    /// Records the outcome of a job that this caller took and hasn't finished: what the job's ask means. No memory is
+    /// taken.
     pub fn finish(&mut self, caller: u32, slip: Slip, out: W::Out)
         requires took { takers slip.number (entries_of slip.pipe self.old) ≡ caller ∷ [] }
         requires once { has slip.number (finished (entries_of slip.pipe self.old)) ≡ false }
@@ -92,8 +94,8 @@ impl<W: Work> BoardCore<W> {
         self.ready.set_ready(pipe, place, had_job, has_job);
     }
 
-    /// The first request of a chain's line goes on to its pad, where the chain isn't held. False exactly where there is no such
-    /// chain. No memory is taken.
+    /// The first request of a chain's queue goes on to its pad, where the chain isn't held. False exactly where there
+    /// is no such chain. No memory is taken.
     pub fn pass_on(&mut self, caller: u32) -> bool
         ensures passed { MatchBool result
             ((p : ℕ) × Is is_chain (entries_of p self.old) × (self.new ≡ self.old ++ pass_entry self.old caller p ∷ []))

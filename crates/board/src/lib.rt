@@ -1,5 +1,5 @@
-//! The board: pipelines whose requests are done by any worker, in any order, and handed out in order. A pipeline is a pad, a
-//! queue, or a chain of both.
+//! The board: pipelines whose requests are done by any worker, in any order, and handed out in order. A pipeline is a
+//! pad, a queue, or a chain of both.
 //!
 //! Each call appends the one entry to the board's history that is legal after the entries before it, or none.
 #![tactic(auto)]
@@ -27,7 +27,7 @@ mod run_queues;
 mod sharing_laws;
 mod stage;
 mod stage_queries;
-mod submitting;
+mod submission;
 mod work;
 
 pub use board_core::{BoardCore, BoardErr};

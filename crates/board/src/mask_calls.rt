@@ -22,10 +22,10 @@ impl<W: Work> BoardCore<W> {
         place.stage.lists()
     }
 
-    /// From now on the workers whose bits are set may take from the pad, besides its maker and who submits to it: bit i stands for
-    /// caller i + 1. What was submitted before stays, and is completed in order. The caller made the pad, which is neither closed nor
-    /// shared, and no bit stands at or above the number of lists that it was made with. Only want of memory refuses, and
-    /// leaves the board as it was.
+    /// From now on the workers whose bits are set may take from the pad, besides its maker and who submits to it: bit i
+    /// stands for caller i + 1. What was submitted before stays, and is completed in order. The caller made the pad,
+    /// which is neither closed nor shared, and no bit stands at or above the number of lists that it was made with.
+    /// Only want of memory refuses, and leaves the board as it was.
     pub fn mask(&mut self, caller: u32, pipe: u64, mask: u16) -> Result<(), BoardErr>
         requires caller { MayManage (entries_of pipe self.old) caller }
         requires pipe { IsOpenPad (entries_of pipe self.old) }

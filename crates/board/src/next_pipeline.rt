@@ -9,25 +9,25 @@ use crate::pipeline::Pipeline;
 use crate::run_queue::RunQueue;
 use std::collections::BTreeMap;
 
-/// Finds a pipeline in line of which the caller may take a job. Those that it finds without one leave the line.
+/// Finds a pipeline queued of which the caller may take a job. Those that it finds without one leave the run queue.
 pub(crate) fn next_for<J: Drop, F: Drop>(
     pipes: &BTreeMap<u64, Pipeline<J, F>>,
-    line: &mut RunQueue,
+    queue: &mut RunQueue,
     caller: u32,
 ) -> Option<u64>
-    ensures kept { KeepsSuch (HasJobFor caller) (places pipes.now) line.old line.new }
-    ensures next { FindsIn (HasJobFor caller) (places pipes.now) line.old result }
+    ensures kept { KeepsSuch (HasJobFor caller) (places pipes.now) queue.old queue.new }
+    ensures next { FindsIn (HasJobFor caller) (places pipes.now) queue.old result }
 {
-    while let Some(k) = line.next() {
+    while let Some(k) = queue.next() {
         if has_job_at(pipes, k, caller) {
             return Some(k);
         }
-        line.remove(k);
+        queue.remove(k);
     }
     None
 }
 
-/// Finds a chain in line that may pass a request on. Those that it finds without one leave the line.
+/// Finds a chain queued that may pass a request on. Those that it finds without one leave the run queue.
 pub(crate) fn next_request<J: Drop, F: Drop>(
     pipes: &BTreeMap<u64, Pipeline<J, F>>,
     passing: &mut RunQueue,

@@ -7,8 +7,8 @@ ghost use Rattle.board.specs.RunQueue.{Admits, HasJobFor};
 use crate::mask::is_masked;
 use crate::stage::Stage;
 
-/// An open pipeline: who made it, whether it is shared, which workers may take from it, who else submitted to it where it is no queue,
-/// how many of its callbacks were collected, and what stands behind it.
+/// An open pipeline: who made it, whether it is shared, which workers may take from it, who else submitted to it where
+/// it is no queue, how many of its callbacks were collected, and what stands behind it.
 #[derive(Drop)]
 pub(crate) struct Pipeline<J, F> {
     pub(crate) maker: u32,

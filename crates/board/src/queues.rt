@@ -13,17 +13,17 @@ ghost use Rattle.board.specs.Legal.{MaySubmit, MayManage, IsOpenQueue, LegalBoar
 use crate::board_core::{BoardCore, BoardErr};
 use crate::entry::{BoardEntry, Entered};
 use crate::log::reserve_entries;
-use crate::requests::{make_room, tell_lines};
-use crate::submitting::Admitted;
+use crate::requests::{make_room, update_run_queues};
+use crate::submission::Admitted;
 use crate::work::Work;
 
 impl<W: Work> BoardCore<W> {
-    /// Offers a job to a queue or chain, and answers its verdict: accepted while fewer requests wait than the queue's bound,
-    /// otherwise into the backlog where `backlog` permits it, and else refused for want of space. The caller made the queue,
-    /// which isn't closed, or the queue is shared, and the caller is no worker. `TooBig` where the caller's allowance has no
-    /// room for the job; want of memory comes after that, and both before the verdict. Either leaves the board as it was.
-    /// `NoSpace` is recorded. What isn't accepted is dropped. All memory that the job's `take` and `finish` and its callbacks
-    /// need is taken here.
+    /// Offers a job to a queue or chain, and answers its verdict: accepted while fewer requests wait than the queue's
+    /// bound, otherwise into the backlog where `backlog` permits it, and else refused for want of space. The caller
+    /// made the queue, which isn't closed, or the queue is shared, and the caller is no worker. `TooBig` where the
+    /// caller's allowance has no room for the job; want of memory comes after that, and both before the verdict. Either
+    /// leaves the board as it was. `NoSpace` is recorded. What isn't accepted is dropped. All memory that the job's
+    /// `take` and `finish` and its callbacks need is taken here.
     pub fn enqueue(
         &mut self,
         caller: u32,
@@ -66,12 +66,12 @@ impl<W: Work> BoardCore<W> {
             backlog,
             answer,
         });
-        tell_lines(&mut self.ready, &mut self.passing, pipe, place, had_job);
+        update_run_queues(&mut self.ready, &mut self.passing, pipe, place, had_job);
         Ok(answer)
     }
 
-    /// From now on no request of the queue is run, and none of the chain goes on to its pad. The caller made it, and it isn't
-    /// closed. Only want of memory refuses, and leaves the board as it was.
+    /// From now on no request of the queue is run, and none of the chain goes on to its pad. The caller made it, and it
+    /// isn't closed. Only want of memory refuses, and leaves the board as it was.
     pub fn hold(&mut self, caller: u32, pipe: u64) -> Result<(), BoardErr>
         requires caller { MayManage (entries_of pipe self.old) caller }
         requires pipe { IsOpenQueue (entries_of pipe self.old) }
@@ -91,8 +91,8 @@ impl<W: Work> BoardCore<W> {
         Ok(())
     }
 
-    /// The queue's requests are run again, or the chain's go on. The caller made it, and it isn't closed. Only want of memory
-    /// refuses, and leaves the board as it was.
+    /// The queue's requests are run again, or the chain's go on. The caller made it, and it isn't closed. Only want of
+    /// memory refuses, and leaves the board as it was.
     pub fn go(&mut self, caller: u32, pipe: u64) -> Result<(), BoardErr>
         requires caller { MayManage (entries_of pipe self.old) caller }
         requires pipe { IsOpenQueue (entries_of pipe self.old) }

@@ -1,4 +1,4 @@
-//! What a board does for a request beside its pipeline: it makes room, and tells the lines what may be done then.
+//! What a board does for a request beside its pipeline: it makes room, and tells the run queues what may be done then.
 
 ghost use Rattle.std.specs.Prelude.{◌≡◌, ℕ, ◌<◌, ◌==◌, if◌then◌else◌, OnOk, OnErr};
 ghost use Rattle.std.specs.Vec.{vec_len, vec_capacity};
@@ -16,8 +16,8 @@ use crate::run_queues::RunQueues;
 use std::alloc::AllocError;
 use std::collections::BTreeMap;
 
-/// Makes room for one more request of the caller, who may take from the pipeline from now on. Where the request is accepted,
-/// it notes what the caller has used with it. Want of memory changes nothing that is seen.
+/// Makes room for one more request of the caller, who may take from the pipeline from now on. Where the request is
+/// accepted, it notes what the caller has used with it. Want of memory changes nothing that is seen.
 pub(crate) fn make_room<J: Drop, F: Drop>(
     ready: &mut RunQueues,
     used: &mut BTreeMap<u32, Used>,
@@ -27,13 +27,13 @@ pub(crate) fn make_room<J: Drop, F: Drop>(
     more: Used,
     accepted: bool,
 ) -> Result<(), AllocError>
-    ensures lines { IsMade Keeps ready.old ready.new }
+    ensures run_queues { IsMade Keeps ready.old ready.new }
     ensures same { IsSame place.old place.new }
     ensures placed { IsPlaced place.old.stage → IsPlaced place.new.stage }
     ensures room { OnOk result (HasRoom place.new.stage) }
     ensures notes { OnOk result (vec_len place.new.submitters < vec_capacity place.new.submitters) }
     ensures joined { OnOk result (IsNoQueue place.old → IsMember (queue_for caller ready.new.own) pipe) }
-    ensures in_line { OnOk result (IsNoQueue place.old → HasJob place.old → IsQueued (queue_for caller ready.new.own) pipe) }
+    ensures queued { OnOk result (IsNoQueue place.old → HasJob place.old → IsQueued (queue_for caller ready.new.own) pipe) }
     ensures spent { OnOk result ((c : ℕ) →
         used_at used.new c ≡ (if accepted then (if c == caller then more else used_at used.old c) else used_at used.old c)) }
     ensures unspent { OnErr result ((c : ℕ) → used_at used.new c ≡ used_at used.old c) }
@@ -43,9 +43,9 @@ pub(crate) fn make_room<J: Drop, F: Drop>(
     spend(used, caller, more, accepted)
 }
 
-/// Tells the lines in which a pipeline may stand what may be done with it now, where it had a job before or not. No memory
-/// is taken.
-pub(crate) fn tell_lines<J: Drop, F: Drop>(
+/// Tells the run queues in which a pipeline may stand what may be done with it now, where it had a job before or not.
+/// No memory is taken.
+pub(crate) fn update_run_queues<J: Drop, F: Drop>(
     ready: &mut RunQueues,
     passing: &mut RunQueue,
     pipe: u64,

@@ -1,4 +1,4 @@
-//! Lines of pipelines that may have a job to run, or a request to pass on.
+//! Run queues: pipelines that may have a job to run, or a request to pass on.
 
 ghost use Rattle.std.specs.Prelude.{◌≡◌, ◌==◌, ℕ, ◌<◌, ◌≤◌, true, false, length, slice_get, Some, OnOk, IfSome, MatchOption, nat_eq, position};
 ghost use Rattle.board.specs.RunQueue.{IsMember, IsQueued, no_pipelines, Keeps, KeepsPipe, KeepsOthers, IsTold};
@@ -10,13 +10,15 @@ use std::marker::Model;
 /// So many members are few: a number is looked for among them one by one, which takes less time than to hash it.
 const FEW: usize = 8;
 
-/// The pipelines, by their numbers, that may stand in a line. To set one in line, or to take it out, two of them change places.
+/// The pipelines, by their numbers, that may stand in a run queue. To set one queued, or to take it out, two of them
+/// change places.
 #[derive(Drop)]
 pub(crate) struct RunQueue {
     members: IndexSet<u64>,
-    /// So many of the first members stand in line.
+    /// So many of the first members are queued.
     ready: usize,
-    /// The place that is looked at next, or past the line's end, where the first one is: so the members in line take turns.
+    /// The place that is looked at next, or past the run queue's end, where the first one is: so the members queued
+    /// take turns.
     cursor: usize,
 }
 
@@ -32,7 +34,7 @@ impl Model for RunQueue {
 }
 
 impl RunQueue {
-    /// A line without members.
+    /// A run queue without members.
     pub(crate) fn new(alloc: Global) -> RunQueue
         ensures { result ≡ no_pipelines }
     {
@@ -50,7 +52,7 @@ impl RunQueue {
         self.members.is_empty()
     }
 
-    /// From now on the pipeline is a member. A new one doesn't stand in line. Want of memory changes nothing.
+    /// From now on the pipeline is a member. A new one doesn't are queued. Want of memory changes nothing.
     pub(crate) fn join(&mut self, pipe: u64) -> Result<(), AllocError>
         ensures kept { Keeps self.old self.new }
         ensures joined { OnOk result (IsMember self.new pipe) }
@@ -62,11 +64,11 @@ impl RunQueue {
         Ok(())
     }
 
-    /// From now on the pipeline is a member, and stands in line where it is ready. Want of memory changes nothing.
+    /// From now on the pipeline is a member, and is queued where it is ready. Want of memory changes nothing.
     pub(crate) fn admit(&mut self, pipe: u64, ready: bool) -> Result<(), AllocError>
         ensures kept { Keeps self.old self.new }
         ensures joined { OnOk result (IsMember self.new pipe) }
-        ensures in_line { OnOk result (ready ≡ true → IsQueued self.new pipe) }
+        ensures queued { OnOk result (ready ≡ true → IsQueued self.new pipe) }
     {
         self.join(pipe)?;
         if ready {
@@ -85,7 +87,7 @@ impl RunQueue {
         }
     }
 
-    /// Sets a member in line. No memory is taken.
+    /// Sets a member queued. No memory is taken.
     pub(crate) fn add(&mut self, pipe: u64)
         ensures kept { Keeps self.old self.new }
         ensures added { IsMember self.old pipe → IsQueued self.new pipe }
@@ -101,7 +103,7 @@ impl RunQueue {
         }
     }
 
-    /// Takes a member out of the line. No memory is taken.
+    /// Takes a member out of the run queue. No memory is taken.
     pub(crate) fn remove(&mut self, pipe: u64)
         ensures others { KeepsOthers pipe self.old self.new }
         ensures member { IsMember self.old pipe → IsMember self.new pipe }
@@ -112,9 +114,9 @@ impl RunQueue {
         }
     }
 
-    /// Sets a member in line where it is ready. Where it isn't, it leaves the line, but among few it stays until who looks there finds it
-    /// so: while jobs are taken as soon as they come, no line changes then, and none has to pass from one processor to the next. No memory
-    /// is taken.
+    /// Sets a member queued where it is ready. Where it isn't, it leaves the run queue, but among few it stays until
+    /// who looks there finds it so: while jobs are taken as soon as they come, no run queue changes then, and none has
+    /// to pass from one processor to the next. No memory is taken.
     pub(crate) fn set(&mut self, pipe: u64, ready: bool)
         ensures { IsTold (IsMember self.old pipe) pipe false ready self.old self.new }
     {
@@ -125,8 +127,8 @@ impl RunQueue {
         }
     }
 
-    /// One of the members that stand in line. They take turns: each sweep goes over all places, and a member's place only gets less
-    /// while it stands in line, so it waits for at most so many turns as the square of the members.
+    /// One of the members that are queued. They take turns: each sweep goes over all places, and a member's place only
+    /// gets less while it is queued, so it waits for at most so many turns as the square of the members.
     pub(crate) fn next(&mut self) -> Option<u64>
         ensures same { self.new ≡ self.old }
         ensures next { MatchOption result ((p : ℕ) → IsQueued self.old p → ⊥) (λ pipe. IsQueued self.old pipe) }
@@ -144,7 +146,7 @@ impl RunQueue {
         Some(pipe)
     }
 
-    /// Takes the member at this place out of the line, and answers its place behind the line.
+    /// Takes the member at this place out of the run queue, and answers its place behind the run queue.
     fn take_out(&mut self, place: usize) -> usize
         requires { place < length self.old.members }
         ensures moved { (p : ℕ) → slice_get self.old.members place ≡ Some p → slice_get self.new.members result ≡ Some p }

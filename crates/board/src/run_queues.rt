@@ -1,4 +1,4 @@
-//! The lines in which callers find the pipelines whose jobs they may take.
+//! The run queues in which callers find the pipelines whose jobs they may take.
 
 ghost use Rattle.std.specs.Prelude.{◌≡◌, ◌≢◌, ℕ, true, OnOk};
 ghost use Rattle.board.specs.declared.pipeline.Pipeline.{Pipeline};
@@ -21,10 +21,10 @@ const WORKERS: u32 = 16;
 /// The callers below this are the first caller and the workers.
 const FIRST: u32 = 17;
 
-/// A caller's own line. Its members are the pads and chains from which the caller may take.
+/// A caller's own run queue. Its members are the pads and chains from which the caller may take.
 #[derive(Drop)]
 pub(crate) struct CallerQueue {
-    pub(crate) line: RunQueue,
+    pub(crate) queue: RunQueue,
     /// Whether the caller looked for a queue first when it last looked for a job.
     pub(crate) queue_first: bool,
 }
@@ -32,19 +32,21 @@ pub(crate) struct CallerQueue {
 impl CallerQueue {
     fn new(alloc: Global) -> CallerQueue {
         CallerQueue {
-            line: RunQueue::new(alloc),
+            queue: RunQueue::new(alloc),
             queue_first: false,
         }
     }
 }
 
-/// The lines of all callers: in one stand the queues, which everybody serves, and each caller that may take from a pad or a chain
-/// has its own. What a pipeline's job changes are the lines of its maker, its submitters and its workers alone.
+/// The run queues of all callers: in one stand the queues, which everybody serves, and each caller that may take from a
+/// pad or a chain has its own. What a pipeline's job changes are the run queues of its maker, its submitters and its
+/// workers alone.
 #[derive(Drop)]
 pub(crate) struct RunQueues {
     alloc: Global,
     queues: RunQueue,
-    /// Those of the callers 0 to 16, each at its caller's number: the first caller and the workers, since each job visits these.
+    /// Those of the callers 0 to 16, each at its caller's number: the first caller and the workers, since each job
+    /// visits these.
     first: Vec<CallerQueue>,
     /// Those of the other callers that may take from a pad or a chain.
     others: BTreeMap<u32, CallerQueue>,
@@ -59,7 +61,7 @@ impl Model for RunQueues {
 }
 
 impl RunQueues {
-    /// Lines without members.
+    /// Run queues without members.
     pub(crate) fn new(alloc: Global) -> Result<RunQueues, AllocError> {
         let mut first = Vec::new(alloc);
         for _ in 0..FIRST {
@@ -73,7 +75,8 @@ impl RunQueues {
         })
     }
 
-    /// Makes a new pipeline a member of the lines of those that may take from it. Want of memory leaves it out of all lines.
+    /// Makes a new pipeline a member of the run queues of those that may take from it. Want of memory leaves it out of
+    /// all run queues.
     pub(crate) fn enter<J: Drop, F: Drop>(
         &mut self,
         pipe: u64,
@@ -89,7 +92,8 @@ impl RunQueues {
         joined
     }
 
-    /// Makes a new pipeline a member of the lines of those that may take from it. Want of memory leaves it in some.
+    /// Makes a new pipeline a member of the run queues of those that may take from it. Want of memory leaves it in
+    /// some.
     fn join_all<J: Drop, F: Drop>(
         &mut self,
         pipe: u64,
@@ -105,27 +109,28 @@ impl RunQueues {
         self.join_workers(new.mask, pipe)
     }
 
-    /// From now on the caller may take from a pad or a chain, which has a job or not. Want of memory changes nothing that is
-    /// seen.
+    /// From now on the caller may take from a pad or a chain, which has a job or not. Want of memory changes nothing
+    /// that is seen.
     fn join(&mut self, caller: u32, pipe: u64, has_job: bool) -> Result<(), AllocError>
         ensures kept { IsMade Keeps self.old self.new }
         ensures joined { OnOk result (IsMember (queue_for caller self.new.own) pipe) }
-        ensures in_line { OnOk result (has_job ≡ true → IsQueued (queue_for caller self.new.own) pipe) }
+        ensures queued { OnOk result (has_job ≡ true → IsQueued (queue_for caller self.new.own) pipe) }
     {
         let place = caller as usize;
         if place < self.first.len() {
-            return self.first[place].line.admit(pipe, has_job);
+            return self.first[place].queue.admit(pipe, has_job);
         }
         if let Some(own) = self.others.get_mut(&caller) {
-            return own.line.admit(pipe, has_job);
+            return own.queue.admit(pipe, has_job);
         }
         let mut own = CallerQueue::new(self.alloc);
-        own.line.admit(pipe, has_job)?;
+        own.queue.admit(pipe, has_job)?;
         self.others.insert(caller, own)?;
         Ok(())
     }
 
-    /// From now on the caller may take from the pipeline. From a queue everybody may. Want of memory changes nothing that is seen.
+    /// From now on the caller may take from the pipeline. From a queue everybody may. Want of memory changes nothing
+    /// that is seen.
     pub(crate) fn admit<J: Drop, F: Drop>(
         &mut self,
         caller: u32,
@@ -134,7 +139,7 @@ impl RunQueues {
     ) -> Result<(), AllocError>
         ensures kept { IsMade Keeps self.old self.new }
         ensures joined { OnOk result (IsNoQueue place.now → IsMember (queue_for caller self.new.own) pipe) }
-        ensures in_line { OnOk result (IsNoQueue place.now → HasJob place.now → IsQueued (queue_for caller self.new.own) pipe) }
+        ensures queued { OnOk result (IsNoQueue place.now → HasJob place.now → IsQueued (queue_for caller self.new.own) pipe) }
     {
         if place.stage.is_queue() {
             return Ok(());
@@ -142,7 +147,8 @@ impl RunQueues {
         self.join(caller, pipe, place.stage.may_serve())
     }
 
-    /// From now on the workers whose bits are set may take from a pad or a chain. Want of memory leaves it in the lines of some.
+    /// From now on the workers whose bits are set may take from a pad or a chain. Want of memory leaves it in the run
+    /// queues of some.
     pub(crate) fn join_workers(&mut self, mask: u16, pipe: u64) -> Result<(), AllocError>
         ensures kept { IsMade Keeps self.old self.new }
         ensures joined { OnOk result ((worker : ℕ) → IsMasked mask worker → IsMember (queue_for worker self.new.own) pipe) }
@@ -153,7 +159,8 @@ impl RunQueues {
         Ok(())
     }
 
-    /// From now on the worker may take from a pad or a chain, where its bit is set. Want of memory changes nothing that is seen.
+    /// From now on the worker may take from a pad or a chain, where its bit is set. Want of memory changes nothing that
+    /// is seen.
     fn join_worker(&mut self, worker: u32, mask: u16, pipe: u64) -> Result<(), AllocError>
         ensures kept { IsMade Keeps self.old self.new }
         ensures joined { OnOk result (IsMasked mask worker → IsMember (queue_for worker self.new.own) pipe) }
@@ -173,7 +180,7 @@ impl RunQueues {
         self.leave_workers(pipe);
     }
 
-    /// The pipeline is no member of the workers' lines any more.
+    /// The pipeline is no member of the workers' run queues any more.
     fn leave_workers(&mut self, pipe: u64)
         ensures queues { self.new.queues ≡ self.old.queues }
         ensures made { AreMade (KeepsOthers pipe) self.old.own self.new.own }
@@ -183,8 +190,8 @@ impl RunQueues {
         }
     }
 
-    /// The pipeline is no member of this caller's line any more. A line without members is given back, unless its caller is among the
-    /// first.
+    /// The pipeline is no member of this caller's run queue any more. A run queue without members is given back, unless
+    /// its caller is among the first.
     fn leave_own(&mut self, caller: u32, pipe: u64)
         ensures queues { self.new.queues ≡ self.old.queues }
         ensures made { AreMade (KeepsOthers pipe) self.old.own self.new.own }
@@ -192,20 +199,20 @@ impl RunQueues {
     {
         let place = caller as usize;
         if place < self.first.len() {
-            self.first[place].line.leave(pipe);
+            self.first[place].queue.leave(pipe);
             return;
         }
         let Some(own) = self.others.get_mut(&caller) else {
             return;
         };
-        own.line.leave(pipe);
-        if own.line.is_empty() {
+        own.queue.leave(pipe);
+        if own.queue.is_empty() {
             drop(self.others.remove(&caller));
         }
     }
 
-    /// Tells the lines of those that may take from the pipeline whether it has a job now, where it had one before or not. No memory is
-    /// taken.
+    /// Tells the run queues of those that may take from the pipeline whether it has a job now, where it had one before
+    /// or not. No memory is taken.
     pub(crate) fn set_ready<J: Drop, F: Drop>(
         &mut self,
         pipe: u64,
@@ -225,7 +232,8 @@ impl RunQueues {
         }
     }
 
-    /// Tells the lines of the maker of a pad or a chain, of its submitters and of its workers whether it has a job.
+    /// Tells the run queues of the maker of a pad or a chain, of its submitters and of its workers whether it has a
+    /// job.
     fn tell_own<J: Drop, F: Drop>(&mut self, pipe: u64, place: &Pipeline<J, F>, has_job: bool)
         ensures { OwnAreTold (λ c. IsFor c place.now) pipe has_job self.old self.new }
     {
@@ -234,7 +242,7 @@ impl RunQueues {
         self.tell_workers(place.mask, pipe, has_job);
     }
 
-    /// Tells the lines of these callers.
+    /// Tells the run queues of these callers.
     fn tell_each(&mut self, callers: &[u32], pipe: u64, has_job: bool)
         ensures { OwnAreTold (λ c. has c callers.now ≡ true) pipe has_job self.old self.new }
     {
@@ -243,7 +251,7 @@ impl RunQueues {
         }
     }
 
-    /// Tells the lines of the workers whose bits are set.
+    /// Tells the run queues of the workers whose bits are set.
     fn tell_workers(&mut self, mask: u16, pipe: u64, has_job: bool)
         ensures { OwnAreTold (λ c. IsMasked mask c) pipe has_job self.old self.new }
     {
@@ -252,7 +260,7 @@ impl RunQueues {
         }
     }
 
-    /// Tells the worker's line, where its bit is set.
+    /// Tells the worker's run queue, where its bit is set.
     fn tell_worker(&mut self, worker: u32, mask: u16, pipe: u64, has_job: bool)
         ensures { OwnAreTold (λ c. (c ≡ worker) × IsMasked mask c) pipe has_job self.old self.new }
     {
@@ -261,19 +269,19 @@ impl RunQueues {
         }
     }
 
-    /// Tells the caller's line.
+    /// Tells the caller's run queue.
     fn tell_one(&mut self, caller: u32, pipe: u64, has_job: bool)
         ensures { OwnAreTold (λ c. c ≡ caller) pipe has_job self.old self.new }
     {
         let place = caller as usize;
         if place < self.first.len() {
-            self.first[place].line.set(pipe, has_job);
+            self.first[place].queue.set(pipe, has_job);
         } else if let Some(own) = self.others.get_mut(&caller) {
-            own.line.set(pipe, has_job);
+            own.queue.set(pipe, has_job);
         }
     }
 
-    /// Tells the callers' own lines which of them a pad with a new mask admits. No memory is taken.
+    /// Tells the callers' own run queues which of them a pad with a new mask admits. No memory is taken.
     pub(crate) fn readmit<J: Drop, F: Drop>(&mut self, pipe: u64, place: &Pipeline<J, F>)
         ensures queues { self.new.queues ≡ self.old.queues }
         ensures own { (caller : ℕ) → IsReadmitted pipe place.now caller (queue_for caller self.old.own) (queue_for caller self.new.own) }
@@ -282,7 +290,7 @@ impl RunQueues {
         self.tell_own(pipe, place, place.stage.may_serve());
     }
 
-    /// A pad is no member any more of the lines of the workers that it doesn't admit.
+    /// A pad is no member any more of the run queues of the workers that it doesn't admit.
     fn expel_workers<J: Drop, F: Drop>(&mut self, pipe: u64, place: &Pipeline<J, F>)
         ensures { LetsGo pipe place.now self.old self.new }
     {
@@ -291,7 +299,7 @@ impl RunQueues {
         }
     }
 
-    /// The pad is no member of the worker's line any more, where it doesn't admit that worker.
+    /// The pad is no member of the worker's run queue any more, where it doesn't admit that worker.
     fn expel<J: Drop, F: Drop>(&mut self, worker: u32, pipe: u64, place: &Pipeline<J, F>)
         ensures { LetsGo pipe place.now self.old self.new }
     {
@@ -300,7 +308,8 @@ impl RunQueues {
         }
     }
 
-    /// Finds a pipeline of which this caller may take a job. Queues, and pads and chains, have their turns at being looked for first.
+    /// Finds a pipeline of which this caller may take a job. Queues, and pads and chains, have their turns at being
+    /// looked for first.
     pub(crate) fn next_job<J: Drop, F: Drop>(
         &mut self,
         pipes: &BTreeMap<u64, Pipeline<J, F>>,
@@ -321,7 +330,8 @@ impl RunQueues {
     }
 }
 
-/// Finds a pipeline of which the caller may take a job, in the queues' line and in its own, of which each is looked into first in turn.
+/// Finds a pipeline of which the caller may take a job, in the queues' run queue and in its own, of which each is
+/// looked into first in turn.
 fn next_of<J: Drop, F: Drop>(
     pipes: &BTreeMap<u64, Pipeline<J, F>>,
     queues: &mut RunQueue,
@@ -329,18 +339,18 @@ fn next_of<J: Drop, F: Drop>(
     caller: u32,
 ) -> Option<u64>
     ensures queues { KeepsSuch (HasJobFor caller) (places pipes.now) queues.old queues.new }
-    ensures own { KeepsSuch (HasJobFor caller) (places pipes.now) own.old.line own.new.line }
-    ensures next { FindsInBoth (HasJobFor caller) (places pipes.now) queues.old own.old.line result }
+    ensures own { KeepsSuch (HasJobFor caller) (places pipes.now) own.old.queue own.new.queue }
+    ensures next { FindsInBoth (HasJobFor caller) (places pipes.now) queues.old own.old.queue result }
 {
     own.queue_first = !own.queue_first;
     if own.queue_first {
-        next_in(pipes, queues, &mut own.line, caller)
+        next_in(pipes, queues, &mut own.queue, caller)
     } else {
-        next_in(pipes, &mut own.line, queues, caller)
+        next_in(pipes, &mut own.queue, queues, caller)
     }
 }
 
-/// Finds a pipeline of which the caller may take a job, in one line or else in another.
+/// Finds a pipeline of which the caller may take a job, in one run queue or else in another.
 fn next_in<J: Drop, F: Drop>(
     pipes: &BTreeMap<u64, Pipeline<J, F>>,
     first: &mut RunQueue,

@@ -1,11 +1,11 @@
 //! What stands behind one pipeline: a pad, a queue, or a chain of both.
 
 ghost use Rattle.std.specs.Prelude.{◌≡◌, ℕ, ◌+◌, ◌-◌, ◌<◌, ◌≤◌, ◌^◌, true, false, if◌then◌else◌, [], ◌∷◌, ◌++◌, length, take, drop, None, OnOk, MatchBool, MatchOption, ◌⊎◌};
-ghost use Rattle.request_queue.specs.Line.{number_at_bound, accepted};
+ghost use Rattle.request_queue.specs.BoundedQueue.{number_at_bound, accepted};
 ghost use Rattle.padata_core.specs.Pad.{ready, taken_of, with_taken, emptied};
 ghost use Rattle.cryptd.specs.Server.{bare};
 ghost use Rattle.board.specs.declared.entry.BoardEntry.TheVariants as Entry;
-ghost use Rattle.board.specs.Stages.{is_queue, is_chain, MayServe, MayPass, PassesNone, IsLinked, IsApart, next_in_line, starts_at, after_passed, with_passed, is_pad, has_line, HasRoom, IsPlaced, without_room, accepted_of, answer_of, after_entered, entered_on, with_waiting, passed, IsJoined, MayEnd, released, ended, unfinished_of, jobs_of, IsQuiet, next_of, started_by, without_first, with_job, holding, callbacks_of, collected_from};
+ghost use Rattle.board.specs.Stages.{is_queue, is_chain, MayServe, MayPass, PassesNone, IsLinked, IsApart, next_in_queue, starts_at, after_passed, with_passed, is_pad, has_queue, HasRoom, IsPlaced, without_room, accepted_of, answer_of, after_entered, entered_on, with_waiting, passed, IsJoined, MayEnd, released, ended, unfinished_of, jobs_of, IsQuiet, next_of, started_by, without_first, with_job, holding, callbacks_of, collected_from};
 
 use crate::entry::{BoardEntry, Entered};
 use cryptd::Cryptd;
@@ -17,7 +17,7 @@ use std::alloc::AllocError;
 /// A queue whose requests go on to a pad, under the same numbers.
 #[derive(Drop)]
 pub(crate) struct Chained<J, F> {
-    pub(crate) line: Cryptd<J, F>,
+    pub(crate) server: Cryptd<J, F>,
     pub(crate) pad: Padata<J, F>,
 }
 
@@ -30,8 +30,8 @@ pub(crate) enum Stage<J, F> {
 }
 
 impl<J: Drop, F: Drop> Stage<J, F> {
-    /// Makes room for one more request, its outcome and its callbacks, on a chain in both parts. Want of memory leaves the
-    /// rest as it was.
+    /// Makes room for one more request, its outcome and its callbacks, on a chain in both parts. Want of memory leaves
+    /// the rest as it was.
     pub(crate) fn reserve(&mut self) -> Result<(), AllocError>
         ensures same { without_room self.new ≡ without_room self.old }
         ensures room { OnOk result (HasRoom self.new) }
@@ -39,10 +39,10 @@ impl<J: Drop, F: Drop> Stage<J, F> {
     {
         match self {
             Stage::Pad(pad) => pad.reserve(1),
-            Stage::Queue(line) => line.reserve(1),
+            Stage::Queue(server) => server.reserve(1),
             Stage::Chain(chain) => {
-                chain.line.reserve(1)?;
-                let Some(places) = chain.line.waiting().checked_add(1) else {
+                chain.server.reserve(1)?;
+                let Some(places) = chain.server.waiting().checked_add(1) else {
                     return Err(AllocError);
                 };
                 chain.pad.reserve(places)
@@ -52,7 +52,7 @@ impl<J: Drop, F: Drop> Stage<J, F> {
 
     /// A queue or chain that has room for one answers a request, and takes it in where it accepts it.
     pub(crate) fn enqueue(&mut self, job: J, backlog: bool) -> Entered
-        requires line { has_line self.old ≡ true }
+        requires server { has_queue self.old ≡ true }
         requires room { HasRoom self.old }
         requires few { accepted_of self.old < 2 ^ 63 }
         ensures answer { result ≡ answer_of self.old backlog }
@@ -61,8 +61,8 @@ impl<J: Drop, F: Drop> Stage<J, F> {
     {
         match self {
             Stage::Pad(_) => unreachable!(),
-            Stage::Queue(line) => enter(line, job, backlog),
-            Stage::Chain(chain) => enter(&mut chain.line, job, backlog),
+            Stage::Queue(server) => enter(server, job, backlog),
+            Stage::Chain(chain) => enter(&mut chain.server, job, backlog),
         }
     }
 
@@ -73,10 +73,10 @@ impl<J: Drop, F: Drop> Stage<J, F> {
     {
         match self {
             Stage::Pad(pad) => pad.finish(number, out),
-            Stage::Queue(line) => line.done(number, out),
+            Stage::Queue(server) => server.done(number, out),
             Stage::Chain(chain) => {
                 chain.pad.finish(number, out);
-                pass_back(&mut chain.line, &mut chain.pad);
+                pass_back(&mut chain.server, &mut chain.pad);
             }
         }
     }
@@ -96,8 +96,8 @@ impl<J: Drop, F: Drop> Stage<J, F> {
         }
     }
 
-    /// Hands out the first job that is ready to be run, with its number, and with the number that has left the backlog by
-    /// that.
+    /// Hands out the first job that is ready to be run, with its number, and with the number that has left the backlog
+    /// by that.
     pub(crate) fn take(&mut self) -> Option<Served<J>>
         requires { IsApart self.old }
         ensures { MatchOption result
@@ -107,7 +107,7 @@ impl<J: Drop, F: Drop> Stage<J, F> {
     {
         match self {
             Stage::Pad(pad) => first_of(pad),
-            Stage::Queue(line) => line.serve(),
+            Stage::Queue(server) => server.serve(),
             Stage::Chain(chain) => first_of(&mut chain.pad),
         }
     }
@@ -118,24 +118,24 @@ impl<J: Drop, F: Drop> Stage<J, F> {
     {
         match self {
             Stage::Pad(pad) => pad.has_waiting(),
-            Stage::Queue(line) => line.may_serve(),
+            Stage::Queue(server) => server.may_serve(),
             Stage::Chain(chain) => chain.pad.has_waiting(),
         }
     }
 
-    /// Whether a chain's line may pass a request on.
+    /// Whether a chain's queue may pass a request on.
     pub(crate) fn may_pass(&self) -> bool
         ensures { MatchBool result (MayPass self.now) (PassesNone self.now) }
     {
         match self {
             Stage::Pad(_) => false,
             Stage::Queue(_) => false,
-            Stage::Chain(chain) => chain.line.may_serve(),
+            Stage::Chain(chain) => chain.server.may_serve(),
         }
     }
 
-    /// The first request of a chain's line goes on to its pad, in the place that was kept for it there: its number, and the
-    /// number that has left the backlog by that.
+    /// The first request of a chain's queue goes on to its pad, in the place that was kept for it there: its number,
+    /// and the number that has left the backlog by that.
     pub(crate) fn pass_on(&mut self) -> Option<(u64, Option<u64>)>
         requires placed { IsPlaced self.old }
         requires few { accepted_of self.old ≤ 2 ^ 63 }
@@ -143,12 +143,12 @@ impl<J: Drop, F: Drop> Stage<J, F> {
         requires apart { IsApart self.old }
         ensures { MatchOption result
             (PassesNone self.old × (self.new ≡ self.old))
-            (λ r. (r.0 ≡ next_in_line self.old) × (r.1 ≡ starts_at self.old) × (self.new ≡ after_passed self.old)) }
+            (λ r. (r.0 ≡ next_in_queue self.old) × (r.1 ≡ starts_at self.old) × (self.new ≡ after_passed self.old)) }
     {
         match self {
             Stage::Pad(_) => None,
             Stage::Queue(_) => None,
-            Stage::Chain(chain) => pass_on(&mut chain.line, &mut chain.pad),
+            Stage::Chain(chain) => pass_on(&mut chain.server, &mut chain.pad),
         }
     }
 
@@ -163,7 +163,7 @@ impl<J: Drop, F: Drop> Stage<J, F> {
         }
     }
 
-    /// Whether requests go on from its line to a pad.
+    /// Whether requests go on from its queue to a pad.
     pub(crate) fn is_chain(&self) -> bool
         ensures { result ≡ is_chain self.now }
     {
@@ -218,13 +218,13 @@ impl<J: Drop, F: Drop> Stage<J, F> {
 
     /// Holds a queue or chain, or lets it go.
     pub(crate) fn set_held(&mut self, held: bool)
-        requires { has_line self.old ≡ true }
+        requires { has_queue self.old ≡ true }
         ensures { self.new ≡ holding self.old held }
     {
         match self {
             Stage::Pad(_) => unreachable!(),
-            Stage::Queue(line) => mark_held(line, held),
-            Stage::Chain(chain) => mark_held(&mut chain.line, held),
+            Stage::Queue(server) => mark_held(server, held),
+            Stage::Chain(chain) => mark_held(&mut chain.server, held),
         }
     }
 
@@ -234,8 +234,8 @@ impl<J: Drop, F: Drop> Stage<J, F> {
     {
         match self {
             Stage::Pad(pad) => pad.unfinished() == 0,
-            Stage::Queue(line) => line.is_idle(),
-            Stage::Chain(chain) => chain.line.waiting() == 0 && chain.pad.unfinished() == 0,
+            Stage::Queue(server) => server.is_idle(),
+            Stage::Chain(chain) => chain.server.waiting() == 0 && chain.pad.unfinished() == 0,
         }
     }
 
@@ -245,8 +245,8 @@ impl<J: Drop, F: Drop> Stage<J, F> {
     {
         match self {
             Stage::Pad(pad) => pad.finished(),
-            Stage::Queue(line) => line.pending(),
-            Stage::Chain(chain) => chain.line.pending(),
+            Stage::Queue(server) => server.pending(),
+            Stage::Chain(chain) => chain.server.pending(),
         }
     }
 
@@ -258,8 +258,8 @@ impl<J: Drop, F: Drop> Stage<J, F> {
     {
         match self {
             Stage::Pad(pad) => pad.collect(into),
-            Stage::Queue(line) => line.collect(into),
-            Stage::Chain(chain) => chain.line.collect(into),
+            Stage::Queue(server) => server.collect(into),
+            Stage::Chain(chain) => chain.server.collect(into),
         }
     }
 }
@@ -279,61 +279,62 @@ fn first_of<J: Drop, F: Drop>(pad: &mut Padata<J, F>) -> Option<Served<J>>
     })
 }
 
-/// Holds a line, or lets it go.
-fn mark_held<J: Drop, F: Drop>(line: &mut Cryptd<J, F>, held: bool)
-    ensures { line.new ≡ record line.old { held = held } }
+/// Holds a queue, or lets it go.
+fn mark_held<J: Drop, F: Drop>(server: &mut Cryptd<J, F>, held: bool)
+    ensures { server.new ≡ record server.old { held = held } }
 {
     if held {
-        line.hold();
+        server.hold();
     } else {
-        line.go();
+        server.go();
     }
 }
 
-/// A line that has room for one answers a request.
-fn enter<J: Drop, F: Drop>(line: &mut Cryptd<J, F>, job: J, backlog: bool) -> Entered
-    requires room { 1 ≤ line.old.spare }
-    requires few { accepted line.old.line < 2 ^ 63 }
-    ensures answer { result ≡ entered_on line.old backlog }
-    ensures entered { bare line.new ≡ bare (with_waiting line.old job result) }
+/// A queue that has room for one answers a request.
+fn enter<J: Drop, F: Drop>(server: &mut Cryptd<J, F>, job: J, backlog: bool) -> Entered
+    requires room { 1 ≤ server.old.spare }
+    requires few { accepted server.old.queue < 2 ^ 63 }
+    ensures answer { result ≡ entered_on server.old backlog }
+    ensures entered { bare server.new ≡ bare (with_waiting server.old job result) }
 {
-    let number = line.accepted();
-    match line.enqueue(number, job, backlog) {
+    let number = server.accepted();
+    match server.enqueue(number, job, backlog) {
         Verdict::InProgress => Entered::InProgress(number),
         Verdict::Busy => Entered::Busy(number),
         Verdict::NoSpace(_) => Entered::NoSpace,
     }
 }
 
-/// The first request of a chain's line goes on to its pad: its number, and the number that has left the backlog by that.
+/// The first request of a chain's queue goes on to its pad: its number, and the number that has left the backlog by
+/// that.
 fn pass_on<J: Drop, F: Drop>(
-    line: &mut Cryptd<J, F>,
+    server: &mut Cryptd<J, F>,
     pad: &mut Padata<J, F>,
 ) -> Option<(u64, Option<u64>)>
-    requires placed { length line.old.line.waiting ≤ pad.old.spare }
-    requires few { accepted line.old.line ≤ 2 ^ 63 }
-    requires joined { IsJoined line.old pad.old }
-    requires apart { line.old.busy ≡ false }
+    requires placed { length server.old.queue.waiting ≤ pad.old.spare }
+    requires few { accepted server.old.queue ≤ 2 ^ 63 }
+    requires joined { IsJoined server.old pad.old }
+    requires apart { server.old.busy ≡ false }
     ensures { MatchOption result
-        (((line.old.held ≡ true) ⊎ (line.old.line.waiting ≡ [])) × (line.new ≡ line.old) × (pad.new ≡ pad.old))
-        (λ r. (r.0 ≡ line.old.line.served) × (r.1 ≡ number_at_bound line.old.line)
-        × (line.new ≡ passed line.old (drop 1 line.old.line.waiting))
-        × (pad.new ≡ with_passed pad.old (take 1 line.old.line.waiting))) }
+        (((server.old.held ≡ true) ⊎ (server.old.queue.waiting ≡ [])) × (server.new ≡ server.old) × (pad.new ≡ pad.old))
+        (λ r. (r.0 ≡ server.old.queue.served) × (r.1 ≡ number_at_bound server.old.queue)
+        × (server.new ≡ passed server.old (drop 1 server.old.queue.waiting))
+        × (pad.new ≡ with_passed pad.old (take 1 server.old.queue.waiting))) }
 {
-    let served = line.pass_on()?;
+    let served = server.pass_on()?;
     let _ = pad.submit(served.item);
     Some((served.number, served.started))
 }
 
-/// What is ready on a chain's pad is told by its line.
-fn pass_back<J: Drop, F: Drop>(line: &mut Cryptd<J, F>, pad: &mut Padata<J, F>)
-    requires { IsJoined line.old pad.old }
+/// What is ready on a chain's pad is told by its queue.
+fn pass_back<J: Drop, F: Drop>(server: &mut Cryptd<J, F>, pad: &mut Padata<J, F>)
+    requires { IsJoined server.old pad.old }
     ensures pad { pad.new ≡ emptied pad.old }
-    ensures line { line.new ≡ released line.old pad.old }
-    ensures joined { IsJoined line.new pad.new }
+    ensures server { server.new ≡ released server.old pad.old }
+    ensures joined { IsJoined server.new pad.new }
     ensures rest { ready pad.new.outcomes ≡ [] }
 {
     while let Some((number, out)) = pad.collect_next() {
-        line.release(number, out);
+        server.release(number, out);
     }
 }

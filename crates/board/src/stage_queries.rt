@@ -17,8 +17,8 @@ impl<J: Drop, F: Drop> Stage<J, F> {
     {
         match self {
             Stage::Pad(_) => false,
-            Stage::Queue(line) => line.accepts(backlog),
-            Stage::Chain(chain) => chain.line.accepts(backlog),
+            Stage::Queue(server) => server.accepts(backlog),
+            Stage::Chain(chain) => chain.server.accepts(backlog),
         }
     }
 

@@ -1,8 +1,9 @@
-//! Works on 64 KiB again and again, for tools/time-program to time: `cipher_bench WORK FORM COUNT` does COUNT times what WORK says
-//! (`ctr`, `cbc`, `cbc-open`, `xts`, `xts-open`, `gcm`, `gcm-open` or `hmac`) with AES in the form FORM (`generic`, `table` or `lanes`), and prints
-//! the first bytes of what came of it, so that no turn can be left out. `cipher_bench chunks FORM COUNT THREADS` does the same with
-//! CTR of 16 MiB, in chunks for so many threads. `cipher_bench packets WAY SIZE COUNT` seals eight packets under authenc over CBC, WAY being
-//! `together` or `singly`, and SIZE a number of bytes or `mixed`. Without words it prints nothing.
+//! Works on 64 KiB again and again, for tools/time-program to time: `cipher_bench WORK FORM COUNT` does COUNT times
+//! what WORK says (`ctr`, `cbc`, `cbc-open`, `xts`, `xts-open`, `gcm`, `gcm-open` or `hmac`) with AES in the form FORM
+//! (`generic`, `table` or `lanes`), and prints the first bytes of what came of it, so that no turn can be left out.
+//! `cipher_bench chunks FORM COUNT THREADS` does the same with CTR of 16 MiB, in chunks for so many threads.
+//! `cipher_bench packets WAY SIZE COUNT` seals eight packets under authenc over CBC, WAY being `together` or `singly`,
+//! and SIZE a number of bytes or `mixed`. Without words it prints nothing.
 #![tactic(auto)]
 
 ghost use Rattle.std.specs.Prelude.{◌≡◌, ◌<◌, IfOk, vec_len};

@@ -127,7 +127,8 @@ fn write_front(text: &mut [u8], made: &[u8])
     text[..made.len()].copy_from_slice(made);
 }
 
-/// Does the work under a cipher; `tweak` is the one of the tweaks, which XTS alone takes. Of sealing by GCM and of HMAC the last tag or MAC is written over the text's front.
+/// Does the work under a cipher; `tweak` is the one of the tweaks, which XTS alone takes. Of sealing by GCM and of HMAC
+/// the last tag or MAC is written over the text's front.
 fn repeat_under<C: BlockCipher + Drop, H: GhashKey + Drop>(
     work: Work,
     cipher: C,
@@ -158,7 +159,8 @@ fn repeat_under<C: BlockCipher + Drop, H: GhashKey + Drop>(
     }
 }
 
-/// Does the work `count` times over the text, under a key of zeros, and tweaks under a key of ones. `copy` is room that opening takes.
+/// Does the work `count` times over the text, under a key of zeros, and tweaks under a key of ones. `copy` is room that
+/// opening takes.
 pub fn repeat(work: Work, form: Form, count: u32, text: &mut [u8], copy: &mut [u8])
     requires long { 32 ≤ length text.old }
     requires short { length text.old < 2 ^ 32 }

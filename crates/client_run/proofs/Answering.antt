@@ -3,7 +3,7 @@ use Rattle.std.proofs.Common.{◌≡◌, ℕ, ◌+◌, ◌<◌, ◌≤◌, ◌||
 use Rattle.std.specs.List.{list_any}
 use Rattle.std.proofs.lemmas.List.Folds.{list_any-append}
 use Rattle.dialogues.specs.Dialogues.{Ends}
-use Rattle.dialogues.specs.Leading.{Leads}
+use Rattle.dialogues.specs.Continuations.{Leads}
 use Rattle.dialogues.specs.Lines.{line_dialogue, lines_dialogue}
 use Rattle.dialogues.specs.Transcripts.{Transcript, IsTranscript, ended, joined, text_in, transcript_of}
 use Rattle.dialogues.specs.Widths.{width_of, widest}
@@ -11,14 +11,14 @@ use Rattle.dialogues.proofs.Leading.{text-joined}
 use Rattle.script_run.specs.Text.{is_malformed}
 use Rattle.script_run.proofs.Following.{sees-then}
 use Rattle.script_run.proofs.Fronts.{widest-front, widest-last}
-use Rattle.script_session.specs.Performing.{Stops}
-use Rattle.script_session.specs.Running.{IsReady, Replies}
+use Rattle.script_session.specs.PerformedDialogue.{Stops}
+use Rattle.script_session.specs.Replies.{IsReady, Replies}
 use Rattle.script_session.specs.States.{State, SameLocks}
 use Rattle.script_session.proofs.Rules.{called-nothing}
 use Rattle.script_text.specs.Lines.{lines_of}
 use Rattle.script_text.specs.Script.{line_of, script_of}
 use Rattle.script_text.specs.declared.commands.Line.{Line}
-use Rattle.recorded_calls.specs.Asking.{AskedBy, IsCaller}
+use Rattle.recorded_calls.specs.RegistryCalls.{AskedBy, IsCaller}
 use Rattle.recorded_calls.specs.Passes.{known}
 use Rattle.recorded_calls.specs.Pipelines.{Called}
 use Rattle.recorded_calls.proofs.Boarding.{called-more as called-then}

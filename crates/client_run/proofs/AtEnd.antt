@@ -13,7 +13,7 @@ use Rattle.board.specs.Entries.{is_of, entries_of, submissions, front, is_closed
 use Rattle.board.specs.Legal.{MayManage, LegalBoard}
 use Rattle.board.specs.Order.{completed, handed_out, numbers_below}
 use Rattle.client_texts.specs.Outputs.{AreClientTexts, IsOutputOf}
-use Rattle.client_texts.specs.Sharing.{AreInOrder, AreOneList, AreCallersBeside, IsOneOf, caller_for}
+use Rattle.client_texts.specs.OneList.{AreInOrder, AreOneList, AreCallersBeside, IsOneOf, caller_for}
 use Rattle.crew.specs.declared.passes.Passes.{Passes}
 use Rattle.crew.specs.Peers.{HasEnded, OthersFollow}
 use Rattle.dialogues.specs.Texts.{IsClientText, AreFirstTexts}
@@ -25,7 +25,7 @@ use Rattle.script_text.specs.declared.commands.Line.{Line}
 use Rattle.script_text.specs.Script.{script_of}
 use Rattle.std.specs.List.{flat_map}
 use Rattle.transforms.specs.declared.ask.Ask.{Ask}
-use Rattle.turn_lock.specs.Going.{starts_through}
+use Rattle.turn_lock.specs.TurnLaws.{starts_through}
 use Rattle.turn_lock.specs.Passes.{knows}
 use Rattle.turn_lock.specs.Turns.{Known, Each, StartsWith}
 use Rattle.client_run.specs.WithWorkers.{IsHistoryOf, HaveLeft, AnswersParts, AnswersRest, texts_in}

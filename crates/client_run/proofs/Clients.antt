@@ -12,11 +12,11 @@ use Rattle.board.specs.Legal.{LegalBoard}
 use Rattle.crew.specs.declared.passes.Passes.{Passes}
 use Rattle.crew.specs.Both.{ArePassesOn}
 use Rattle.crew.specs.Peers.{OthersFollow}
-use Rattle.dialogues.specs.Allocating.{lists_beside}
+use Rattle.dialogues.specs.AllocAndFree.{lists_beside}
 use Rattle.dialogues.specs.BoardCalls.{board_calls}
 use Rattle.dialogues.specs.Dialogues.{Dialogue, Ends}
 use Rattle.dialogues.specs.Lines.{lines_dialogue, script_beside}
-use Rattle.dialogues.specs.Piping.{end_beside}
+use Rattle.dialogues.specs.PipelineCommands.{end_beside}
 use Rattle.dialogues.specs.RegistryCalls.{reg_calls}
 use Rattle.dialogues.specs.Texts.{IsTextOf, IsClientText, turn_by}
 use Rattle.dialogues.specs.Transcripts.{Transcript, IsTranscript, joined, text_in, transcript_of}
@@ -24,20 +24,20 @@ use Rattle.dialogues.specs.ScriptState.{Live, PipelineState, start_beside}
 use Rattle.dialogues.specs.Widths.{widest}
 use Rattle.dialogues.proofs.Leading.{text-joined}
 use Rattle.script_run.specs.Text.{is_malformed}
-use Rattle.script_session.specs.Ending.{AnswersEndBeside, EndsDelivered}
-use Rattle.script_session.specs.Performing.{Stops}
-use Rattle.script_session.specs.Running.{IsReady, Replies}
+use Rattle.script_session.specs.EndOfInput.{AnswersEndBeside, EndsDelivered}
+use Rattle.script_session.specs.PerformedDialogue.{Stops}
+use Rattle.script_session.specs.Replies.{IsReady, Replies}
 use Rattle.script_session.specs.States.{State, HasShared}
 use Rattle.script_text.specs.declared.commands.Line.{Line}
-use Rattle.recorded_calls.specs.Asking.{IsCaller}
+use Rattle.recorded_calls.specs.RegistryCalls.{IsCaller}
 use Rattle.recorded_calls.specs.Passes.{known}
-use Rattle.recorded_calls.specs.Sharing.{SharedStaysKnown}
+use Rattle.recorded_calls.specs.SharedCalls.{SharedStaysKnown}
 use Rattle.recorded_calls.proofs.Boarding.{called-more as called-then}
 use Rattle.shared_board.specs.declared.shared.SharedBoard.{SharedBoard}
 use Rattle.shared_registry.specs.declared.registry_lock.SharedRegistry.{SharedRegistry}
 use Rattle.transforms.specs.declared.ask.Ask.{Ask}
 use Rattle.transforms.specs.declared.request.Finished.{Finished}
-use Rattle.turn_lock.specs.Meeting.{IsOwn}
+use Rattle.turn_lock.specs.PassLaws.{IsOwn}
 use Rattle.turn_lock.specs.Passes.{knows}
 use Rattle.turn_lock.specs.Turns.{Known, of}
 use Rattle.client_run.specs.declared.client.ClientText.{ClientText}

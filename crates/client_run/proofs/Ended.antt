@@ -2,9 +2,9 @@
 use Rattle.std.proofs.Common.{◌≡◌, ◌<◌, ◌≤◌, ◌⊎◌, ◌+◌, ℕ, Bool, true, false, List, [], ◌∷◌, ◌++◌, sym, ap, ◌∙◌, subst, arith, inl, inr}
 use Rattle.std.specs.Prelude.{◌==◌, if◌then◌else◌}
 use Rattle.std.proofs.lemmas.Bool.{eq-eqb}
-use Rattle.turn_lock.specs.Going.{starts_through}
+use Rattle.turn_lock.specs.TurnLaws.{starts_through}
 use Rattle.turn_lock.specs.Turns.{Known, Each, Has, StartsWith, Shows, of}
-use Rattle.turn_lock.specs.Meeting.{IsOwn}
+use Rattle.turn_lock.specs.PassLaws.{IsOwn}
 use Rattle.crew.specs.Peers.{HasEnded, OthersFollow, EndedStays, EndedAreAlone, FirstIsAlone, CallersAre}
 use Rattle.crew.proofs.Peering.{has_on}
 use Rattle.client_run.specs.WithWorkers.{IsHistoryOf, GaveNumbers}

@@ -9,16 +9,16 @@ use Rattle.crew.specs.Peers.{OthersFollow}
 use Rattle.dialogues.specs.BoardCalls.{BoardCall, board_calls}
 use Rattle.dialogues.specs.Dialogues.{Ends}
 use Rattle.dialogues.specs.Lines.{lines_dialogue}
-use Rattle.dialogues.specs.Piping.{end as ending_of}
+use Rattle.dialogues.specs.PipelineCommands.{end as ending_of}
 use Rattle.dialogues.specs.RegistryCalls.{reg_calls, AllSettled}
-use Rattle.dialogues.specs.Sharing.{share_all, closing}
+use Rattle.dialogues.specs.SharedTransforms.{share_all, closing}
 use Rattle.dialogues.specs.Texts.{AreFirstTexts}
 use Rattle.dialogues.specs.Transcripts.{Transcript, IsTranscript, joined, transcript_of, text_in}
 use Rattle.dialogues.specs.ScriptState.{ScriptState, Live, start}
 use Rattle.reply_text.specs.Answers.{text_of}
 use Rattle.reply_text.specs.declared.answers.Answer.{Answer}
 use Rattle.script_text.specs.declared.commands.Line.{Line}
-use Rattle.script_session.specs.Ending.{part, LeadsBy}
+use Rattle.script_session.specs.EndOfInput.{part, LeadsBy}
 use Rattle.transforms.specs.declared.ask.Ask.{Ask}
 use Rattle.turn_lock.specs.Turns.{Known}
 use Rattle.client_run.specs.Laws.{Laws}

@@ -7,7 +7,7 @@ use Rattle.board.specs.Entries.{caller_of as board_caller}
 use Rattle.crew.specs.Peers.{OthersFollow}
 use Rattle.dialogues.specs.BoardCalls.{board_calls, is_called}
 use Rattle.dialogues.specs.RegistryCalls.{reg_calls, AllSettled}
-use Rattle.templates.specs.Looking.{is_asked}
+use Rattle.templates.specs.LookResults.{is_asked}
 use Rattle.transforms.specs.declared.ask.Ask.{Ask}
 use Rattle.turn_lock.specs.Turns.{Known, of}
 use Rattle.script_run.proofs.Following.{none-of, not-asked, not-called}

@@ -20,7 +20,7 @@ use Rattle.script_session.specs.States.{ReferencesMatch, PipelinesMatch, MadeWid
 use Rattle.recorded_calls.specs.Pipelines.{Owns}
 use Rattle.transforms.specs.AskValue.{ask_size}
 use Rattle.transforms.specs.declared.ask.Ask.{Ask}
-use Rattle.turn_lock.specs.Meeting.{IsOwn}
+use Rattle.turn_lock.specs.PassLaws.{IsOwn}
 use Rattle.turn_lock.specs.Turns.{Known, of}
 use Rattle.script_run.proofs.Following.{none-pass}
 use Rattle.client_run.specs.Laws.{Laws}

@@ -12,7 +12,7 @@ use Rattle.board.specs.declared.entry.BoardEntry.TheVariants.{Shut}
 use Rattle.board.specs.Alone.{PeersGone}
 use Rattle.board.specs.Entries.{caller_of as board_caller}
 use Rattle.board.specs.Legal.{LegalBoard, is_shut}
-use Rattle.board.specs.Staying.{is_work}
+use Rattle.board.specs.PipelineHistory.{is_work}
 use Rattle.client_texts.specs.Outputs.{under_headings}
 use Rattle.crew.specs.Both.{CrewedOnBoth}
 use Rattle.crew.specs.declared.passes.Passes.{Passes}
@@ -20,16 +20,16 @@ use Rattle.crew.specs.Peers.{AreOuts, RanBeside, RunsOnBoth}
 use Rattle.dialogues.specs.ScriptState.{Live}
 use Rattle.reply_text.specs.Answers.{text_of}
 use Rattle.script_run.specs.Runs.{AreNew}
-use Rattle.script_session.specs.Gathering.{IsJoined, EndsFirst}
-use Rattle.script_session.specs.Performing.{HasSeenMore, SeesOn}
+use Rattle.script_session.specs.SharedEnd.{IsJoined, EndsFirst}
+use Rattle.script_session.specs.PerformedDialogue.{HasSeenMore, SeesOn}
 use Rattle.script_text.specs.declared.commands.Line.{Line}
 use Rattle.script_text.specs.Script.{script_of}
 use Rattle.recorded_calls.specs.declared.stop.Stop.{Stop}
-use Rattle.recorded_calls.specs.Sharing.{HaveEnded}
-use Rattle.shared_registry.specs.Building.{is_building}
+use Rattle.recorded_calls.specs.SharedCalls.{HaveEnded}
+use Rattle.shared_registry.specs.Builds.{is_building}
 use Rattle.templates.specs.Table.{table}
 use Rattle.transforms.specs.declared.ask.Ask.{Ask}
-use Rattle.turn_lock.specs.Meeting.{AtTurn, Enters, Leaves}
+use Rattle.turn_lock.specs.PassLaws.{AtTurn, Enters, Leaves}
 use Rattle.turn_lock.specs.Passes.{knows}
 use Rattle.turn_lock.specs.Turns.{Known, Shows, StartsWith}
 use Rattle.client_run.specs.declared.with_workers.Output.{Output}

@@ -9,21 +9,21 @@ use Rattle.board.specs.declared.entry.BoardEntry.{BoardEntry}
 use Rattle.board.specs.Entries.{caller_of as board_caller}
 use Rattle.crew.specs.declared.passes.Passes.{Passes}
 use Rattle.crew.specs.Both.{ArePassesOn}
-use Rattle.dialogues.specs.Allocating.{lists_beside}
+use Rattle.dialogues.specs.AllocAndFree.{lists_beside}
 use Rattle.dialogues.specs.BoardCalls.{board_calls}
 use Rattle.dialogues.specs.Dialogues.{Ends}
 use Rattle.dialogues.specs.Lines.{lines_dialogue}
 use Rattle.dialogues.specs.RegistryCalls.{reg_calls, AllSettled}
-use Rattle.dialogues.specs.Sharing.{share_all}
+use Rattle.dialogues.specs.SharedTransforms.{share_all}
 use Rattle.dialogues.specs.Transcripts.{IsTranscript}
 use Rattle.dialogues.specs.ScriptState.{Live, start}
 use Rattle.dialogues.specs.Widths.{widest}
 use Rattle.script_run.specs.Runs.{AreNew}
 use Rattle.script_run.specs.Text.{is_malformed}
-use Rattle.script_session.specs.Ending.{LeadsBy}
-use Rattle.script_session.specs.Performing.{SeesOn}
-use Rattle.script_session.specs.Lending.{AreLent, SharesAll}
-use Rattle.script_session.specs.Running.{IsReady, Replies}
+use Rattle.script_session.specs.EndOfInput.{LeadsBy}
+use Rattle.script_session.specs.PerformedDialogue.{SeesOn}
+use Rattle.script_session.specs.Loans.{AreLent, SharesAll}
+use Rattle.script_session.specs.Replies.{IsReady, Replies}
 use Rattle.script_session.specs.States.{State, ReferencesMatch, PipelinesMatch, MadeWide, owners}
 use Rattle.script_text.specs.declared.commands.Line.{Line}
 use Rattle.recorded_calls.specs.Passes.{known}
@@ -33,7 +33,7 @@ use Rattle.shared_board.specs.declared.shared.SharedBoard.{SharedBoard}
 use Rattle.shared_registry.specs.declared.registry_lock.SharedRegistry.{SharedRegistry}
 use Rattle.transforms.specs.declared.ask.Ask.{Ask}
 use Rattle.transforms.specs.declared.request.Finished.{Finished}
-use Rattle.turn_lock.specs.Meeting.{IsOwn}
+use Rattle.turn_lock.specs.PassLaws.{IsOwn}
 use Rattle.turn_lock.specs.Passes.{knows}
 use Rattle.turn_lock.specs.Turns.{Known}
 use Rattle.client_run.specs.Parts.{FirstOpens}

@@ -2,13 +2,13 @@
 use Rattle.std.proofs.Common.{◌≡◌, ◌<◌, ◌≤◌, ◌⊎◌, ◌+◌, ℕ, suc, Bool, true, false, List, [], ◌∷◌, length, sym, ap, ◌∙◌, subst, arith, inl, inr}
 use Rattle.std.proofs.Math.Nat.{eq-or-lt_of_le}
 use Rattle.turn_lock.specs.Turns.{Known, Each}
-use Rattle.turn_lock.specs.Meeting.{IsOwn}
+use Rattle.turn_lock.specs.PassLaws.{IsOwn}
 use Rattle.board.specs.declared.entry.BoardEntry.{BoardEntry}
 use Rattle.board.specs.Entries.{entries_of, submissions, front, is_closed, is_shared, caller_of}
-use Rattle.board.specs.Following.{AreRightAlone}
+use Rattle.board.specs.NextEntry.{AreRightAlone}
 use Rattle.board.specs.Legal.{MayManage, LegalBoard}
 use Rattle.board.specs.Others.{OthersAlone, WorkLeavesKnown, WorkLeavesDrained}
-use Rattle.board.specs.Staying.{IsDrained}
+use Rattle.board.specs.PipelineHistory.{IsDrained}
 use Rattle.crew.specs.Peers.{HasEnded, Peered}
 use Rattle.client_run.specs.WithWorkers.{IsHistoryOf, HasShutLast}
 use Rattle.client_run.proofs.Makers.{IsHad, made-before, open-before, maker-of, shared-had}

@@ -18,17 +18,17 @@ use Rattle.crew.specs.declared.passes.Passes.{Passes}
 use Rattle.crew.specs.Peers.{HasEnded, Peered, OthersFollow, RunsOnBoth}
 use Rattle.dialogues.specs.ScriptState.{Live}
 use Rattle.script_run.specs.Text.{is_malformed}
-use Rattle.script_session.specs.Ending.{EndsDelivered}
-use Rattle.script_session.specs.Gathering.{IsJoined}
-use Rattle.script_session.specs.Lending.{AreLent}
+use Rattle.script_session.specs.EndOfInput.{EndsDelivered}
+use Rattle.script_session.specs.SharedEnd.{IsJoined}
+use Rattle.script_session.specs.Loans.{AreLent}
 use Rattle.script_session.specs.States.{owners}
 use Rattle.script_text.specs.Script.{script_of}
 use Rattle.recorded_calls.specs.declared.stop.Stop.{Stop}
 use Rattle.recorded_calls.specs.Pipelines.{Owns}
-use Rattle.recorded_calls.specs.Sharing.{HaveEnded}
+use Rattle.recorded_calls.specs.SharedCalls.{HaveEnded}
 use Rattle.transforms.specs.declared.ask.Ask.{Ask}
-use Rattle.turn_lock.specs.Going.{starts_through}
-use Rattle.turn_lock.specs.Meeting.{AtTurn, Enters, Leaves, IsOwn}
+use Rattle.turn_lock.specs.TurnLaws.{starts_through}
+use Rattle.turn_lock.specs.PassLaws.{AtTurn, Enters, Leaves, IsOwn}
 use Rattle.turn_lock.specs.Passes.{knows}
 use Rattle.turn_lock.specs.Turns.{Known, Each, Has, StartsWith, Shows}
 use Rattle.client_run.specs.declared.client.ClientText.{ClientText}

@@ -3,17 +3,17 @@ use Rattle.std.proofs.Common.{◌≡◌, ◌≢◌, ◌<◌, ◌≤◌, ◌⊎�
 use Rattle.std.specs.Prelude.{All}
 use Rattle.std.specs.List.{list_all}
 use Rattle.std.proofs.lemmas.List.Elements.{filter-append, All-nil, All-cons}
-use Rattle.turn_lock.specs.Going.{none_after}
+use Rattle.turn_lock.specs.TurnLaws.{none_after}
 use Rattle.turn_lock.specs.Turns.{Known, Each, Shows, of}
-use Rattle.turn_lock.specs.Meeting.{IsOwn}
+use Rattle.turn_lock.specs.PassLaws.{IsOwn}
 use Rattle.board.specs.declared.entry.BoardEntry.{BoardEntry}
 use Rattle.board.specs.declared.entry.BoardEntry.TheVariants.{Shut}
 use Rattle.board.specs.Alone.{WorkAlone}
 use Rattle.board.specs.Ends.{IsAllFinished, ShutIsLast}
 use Rattle.board.specs.Entries.{is_of, entries_of, submissions, front, is_closed, caller_of}
 use Rattle.board.specs.Legal.{AreRightAfter, MayManage, LegalBoard}
-use Rattle.board.specs.Sharing.{MakersFinish}
-use Rattle.board.specs.Staying.{is_work}
+use Rattle.board.specs.SharedPipelines.{MakersFinish}
+use Rattle.board.specs.PipelineHistory.{is_work}
 use Rattle.crew.specs.Peers.{HasEnded}
 use Rattle.client_run.specs.WithWorkers.{IsHistoryOf, HasShutLast}
 use Rattle.client_run.proofs.Ended.{each-right, none-here, none-later, begins, shows-own, ended-made}

@@ -9,10 +9,10 @@ use Rattle.dialogues.specs.Lines.{line_dialogue, lines_dialogue}
 use Rattle.dialogues.specs.RegistryCalls.{RegCall}
 use Rattle.dialogues.specs.ScriptState.{ScriptState}
 use Rattle.dialogues.specs.Widths.{widest}
-use Rattle.script_session.specs.Performing.{HasSeenMore}
+use Rattle.script_session.specs.PerformedDialogue.{HasSeenMore}
 use Rattle.script_session.specs.States.{State, SameLocks}
 use Rattle.script_text.specs.declared.commands.Line.{Line}
-use Rattle.recorded_calls.specs.Asking.{AskedBy, IsCaller}
+use Rattle.recorded_calls.specs.RegistryCalls.{AskedBy, IsCaller}
 use Rattle.recorded_calls.specs.Pipelines.{Called}
 use Rattle.transforms.specs.declared.ask.Ask.{Ask}
 use Rattle.turn_lock.specs.Turns.{Known}

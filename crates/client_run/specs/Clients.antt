@@ -17,7 +17,7 @@ use Rattle.trace_text.specs.Asks.{ask_origin}
 use Rattle.trace_text.specs.Trace.{FitTypes}
 use Rattle.script_run.specs.declared.errors.RunError.{RunError}
 use Rattle.script_run.specs.declared.errors.RunError.TheVariants.{WriteFault, NoMemory}
-use Rattle.client_texts.specs.Sharing.{AreOneList, AreCallersBeside}
+use Rattle.client_texts.specs.OneList.{AreOneList, AreCallersBeside}
 use Rattle.script_run.specs.Endings.{traced, CanBeRead, EndsShut, IsShutOnce}
 use Rattle.script_run.specs.Runs.{GainsThen}
 use Rattle.script_run.specs.Text.{is_malformed}

@@ -5,9 +5,9 @@ use Rattle.alg_registry.specs.declared.entry.RegEntry.{RegEntry}
 use Rattle.board.specs.declared.entry.BoardEntry.{BoardEntry}
 use Rattle.board.specs.Alone.{PeersAreGone, PeersStayGone, WorkAlone}
 use Rattle.board.specs.Ends.{ShutIsLast}
-use Rattle.board.specs.Following.{AreRightAlone}
+use Rattle.board.specs.NextEntry.{AreRightAlone}
 use Rattle.board.specs.Others.{OthersAlone, WorkLeavesKnown, WorkLeavesDrained, WorkLeavesOwn}
-use Rattle.board.specs.Sharing.{MakersFinish}
+use Rattle.board.specs.SharedPipelines.{MakersFinish}
 use Rattle.client_texts.specs.Laws.{ClientsInOrder, FirstInOrder}
 use Rattle.crew.specs.Peers.{PeersLeave, PeersTakeNumbers, PeersHaveEnded, EndedStays, EndedAreAlone, FirstIsAlone, CallersAre}
 use Rattle.transforms.specs.declared.ask.Ask.{Ask}

@@ -3,7 +3,7 @@ use Rattle.std.specs.Prelude.{◌≡◌, ◌++◌, List, Some}
 use Rattle.dialogues.specs.BoardCalls.{BoardCall}
 use Rattle.dialogues.specs.Dialogues.{Dialogue, followed}
 use Rattle.dialogues.specs.GoingOn.{RegistryCallsGoOn, RegistryUnasked, BoardCallsGoOn, BoardUncalled, NoCall, InTurnByAny, InTurnByMore, CallsThenCallsBy, CallsByAre}
-use Rattle.dialogues.specs.Leading.{LeadsNowhere, LeadsOn}
+use Rattle.dialogues.specs.Continuations.{LeadsNowhere, LeadsOn}
 use Rattle.dialogues.specs.RegistryCalls.{RegCall}
 use Rattle.dialogues.specs.Transcripts.{Transcript, IsTranscript, joined, transcript_of}
 use Rattle.dialogues.specs.ScriptState.{ScriptState}

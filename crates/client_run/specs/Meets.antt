@@ -8,10 +8,10 @@ use Rattle.crew.specs.declared.passes.Passes.{Passes}
 use Rattle.dialogues.specs.Lines.{script_beside}
 use Rattle.dialogues.specs.Transcripts.{Transcript, IsTranscript, text_in}
 use Rattle.script_run.specs.Text.{is_malformed}
-use Rattle.script_session.specs.Ending.{EndsDelivered}
+use Rattle.script_session.specs.EndOfInput.{EndsDelivered}
 use Rattle.script_session.specs.States.{State, SameLocks}
 use Rattle.script_text.specs.declared.commands.Line.{Line}
-use Rattle.recorded_calls.specs.Asking.{AskedBy}
+use Rattle.recorded_calls.specs.RegistryCalls.{AskedBy}
 use Rattle.recorded_calls.specs.Passes.{known}
 use Rattle.recorded_calls.specs.Pipelines.{Called}
 use Rattle.transforms.specs.declared.ask.Ask.{Ask}
@@ -23,7 +23,8 @@ use Rattle.dialogues.specs.Widths.{widest}
 abbrev pub IsPartAt : List (List ℕ) → ℕ → Option (List ℕ) → Type 0
 IsPartAt parts n found = ((part : List ℕ) → 17 ≤ n → slice_get parts (n - 17) ≡ Some part → found ≡ Some part) × ((part : List ℕ) → found ≡ Some part → (17 ≤ n) × (slice_get parts (n - 17) ≡ Some part))
 
--- The pass has seen more by a turn at which it did nothing; no entry that it has seen is its own, where it has made none.
+-- The pass has seen more by a turn at which it did nothing; no entry that it has seen is its own, where it has made
+-- none.
 pub record HasMet {E : Type 0} (by : E → ℕ) (k l : Known E) : Type 0 where
   pub number : l.number ≡ k.number
   pub made : l.made ≡ k.made

@@ -12,19 +12,19 @@ use Rattle.dialogues.specs.BoardCalls.{BoardCall, board_calls}
 use Rattle.dialogues.specs.Dialogues.{Ends}
 use Rattle.dialogues.specs.Lines.{lines_dialogue}
 use Rattle.dialogues.specs.RegistryCalls.{reg_calls, AllSettled}
-use Rattle.dialogues.specs.Sharing.{share_all}
+use Rattle.dialogues.specs.SharedTransforms.{share_all}
 use Rattle.dialogues.specs.Texts.{IsClientText}
 use Rattle.dialogues.specs.Transcripts.{Transcript, IsTranscript, text_in}
 use Rattle.dialogues.specs.ScriptState.{ScriptState, Live, start}
 use Rattle.script_run.specs.Text.{is_malformed}
-use Rattle.script_session.specs.Ending.{LeadsBy, EndsDelivered}
-use Rattle.script_session.specs.Lending.{AreLent}
+use Rattle.script_session.specs.EndOfInput.{LeadsBy, EndsDelivered}
+use Rattle.script_session.specs.Loans.{AreLent}
 use Rattle.script_session.specs.States.{AreShared, owners}
 use Rattle.script_text.specs.declared.commands.Line.{Line}
 use Rattle.script_text.specs.Script.{script_of}
 use Rattle.recorded_calls.specs.Pipelines.{Owns}
 use Rattle.transforms.specs.declared.ask.Ask.{Ask}
-use Rattle.turn_lock.specs.Meeting.{IsOwn}
+use Rattle.turn_lock.specs.PassLaws.{IsOwn}
 use Rattle.turn_lock.specs.Passes.{knows}
 use Rattle.client_run.specs.declared.client.ClientText.{ClientText}
 
@@ -62,7 +62,8 @@ pub record MayRun (workers : ℕ) (shared : List Live) (parts : List (List ℕ))
   pub board : ((knows p.board).number ≡ n) × ((knows p.board).made ≡ [])
   pub shared_known : AreShared shared (knows p.board)
 
--- What a client's script has answered whose passes are q now: over all histories in which others alone follow, this is its text.
+-- What a client's script has answered whose passes are q now: over all histories in which others alone follow, this is
+-- its text.
 pub record ClientAnswers (workers client : ℕ) (shared : List Live) (lines : List Line) (q : Passes Ask) (text : List ℕ) (bad : Bool) : Type 0 where
   pub text_after : (r : List RegEntry) (b : List (BoardEntry Ask)) → OthersFollow reg_caller (knows q.registry) r → OthersFollow board_caller (knows q.board) b
       → IsClientText workers client shared lines r b text
@@ -71,8 +72,8 @@ pub record ClientAnswers (workers client : ℕ) (shared : List Live) (lines : Li
   pub own_board : IsOwn board_caller (knows q.board)
   pub paid : EndsDelivered (knows q.board)
 
--- What the script of client n - 16 did whose passes were p and are now q, and what it gave. A number has a part where it is that of
--- one: the first part here is client 1's.
+-- What the script of client n - 16 did whose passes were p and are now q, and what it gave. A number has a part where
+-- it is that of one: the first part here is client 1's.
 pub record ClientRan {F : Type 0} (workers : ℕ) (shared : List Live) (parts : List (List ℕ)) (n : ℕ) (p q : Passes Ask) (x : Result ClientText F) : Type 0 where
   pub numbers : KeepNumbers p q
   pub answers : (part : List ℕ) → 17 ≤ n → slice_get parts (n - 17) ≡ Some part

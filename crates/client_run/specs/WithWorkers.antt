@@ -12,18 +12,18 @@ use Rattle.board.specs.Legal.{LegalBoard}
 use Rattle.crew.specs.declared.passes.Passes.{Passes}
 use Rattle.crew.specs.Peers.{RanBeside}
 use Rattle.reply_text.specs.Written.{Written}
-use Rattle.script_session.specs.Gathering.{EndsFirst}
+use Rattle.script_session.specs.SharedEnd.{EndsFirst}
 use Rattle.script_text.specs.declared.commands.Line.{Line}
 use Rattle.script_text.specs.Script.{script_of}
 use Rattle.recorded_calls.specs.declared.stop.Stop.{Stop}
 use Rattle.templates.specs.Table.{table}
 use Rattle.transforms.specs.declared.ask.Ask.{Ask}
-use Rattle.turn_lock.specs.Meeting.{IsOwn, AtTurn, Leaves}
+use Rattle.turn_lock.specs.PassLaws.{IsOwn, AtTurn, Leaves}
 use Rattle.turn_lock.specs.Passes.{knows}
 use Rattle.turn_lock.specs.Turns.{Known, StartsWith, Has, Shows}
 use Rattle.dialogues.specs.ScriptState.{Live}
 use Rattle.client_texts.specs.Outputs.{under_headings, IsOutputBy}
-use Rattle.client_texts.specs.Sharing.{AreOneList, AreCallersBeside}
+use Rattle.client_texts.specs.OneList.{AreOneList, AreCallersBeside}
 use Rattle.script_run.specs.Endings.{EndsShut, IsShutOnce}
 use Rattle.script_run.specs.Text.{is_malformed}
 use Rattle.client_run.specs.declared.with_workers.Output.{Output}

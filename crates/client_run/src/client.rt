@@ -5,8 +5,8 @@ ghost use Rattle.std.specs.Arc.{arc_value};
 ghost use Rattle.std.specs.Option.{option_copied};
 ghost use Rattle.crew.specs.Both.{ArePassesOn};
 ghost use Rattle.crew.specs.Peers.{KeepNumbers};
-ghost use Rattle.script_session.specs.Performing.{Stops};
-ghost use Rattle.script_session.specs.Running.{IsReady};
+ghost use Rattle.script_session.specs.PerformedDialogue.{Stops};
+ghost use Rattle.script_session.specs.Replies.{IsReady};
 ghost use Rattle.script_text.specs.Script.{script_of};
 ghost use Rattle.client_run.specs.Parts.{MayRun, ClientAnswers};
 ghost use Rattle.client_run.specs.Meets.{IsPartAt, HaveMet, AnswersPart};
@@ -31,7 +31,8 @@ pub struct ClientText {
     pub malformed: bool,
 }
 
-/// The scripts of the clients after the first, which run at once: client K, counted from 1, as caller 16 + K of both locks.
+/// The scripts of the clients after the first, which run at once: client K, counted from 1, as caller 16 + K of both
+/// locks.
 #[derive(Drop)]
 pub struct ClientRun<'a, G, R> {
     pub rt: &'a R,

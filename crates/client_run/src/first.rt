@@ -4,7 +4,7 @@ ghost use Rattle.std.specs.Prelude.{◌≡◌, ◌≤◌, ◌^◌, length, IfOk}
 ghost use Rattle.std.specs.Arc.{arc_value};
 ghost use Rattle.crew.specs.Both.{ArePassesOn};
 ghost use Rattle.script_run.specs.Runs.{AreNew};
-ghost use Rattle.script_session.specs.Performing.{HasSeenMore, SeesOn};
+ghost use Rattle.script_session.specs.PerformedDialogue.{HasSeenMore, SeesOn};
 ghost use Rattle.script_text.specs.Script.{script_of};
 ghost use Rattle.turn_lock.specs.Passes.{knows};
 ghost use Rattle.client_run.specs.Parts.{FirstOpens};
@@ -21,8 +21,8 @@ use std::sync::{Arc, Wait};
 use std::thread::Threads;
 use transforms::{Ask, Job};
 
-/// What the first part came to: the text of its answers, whether a line of it is malformed, and the transforms that it has made,
-/// which are shared.
+/// What the first part came to: the text of its answers, whether a line of it is malformed, and the transforms that it
+/// has made, which are shared.
 #[derive(Drop)]
 pub struct Opened {
     pub reply: Reply,
@@ -30,8 +30,9 @@ pub struct Opened {
     pub shared: Arc<Shared, Global>,
 }
 
-/// Answers the lines of the first part, of at most 2^28 bytes, as the script of client 0, and then shares what it has made. The passes
-/// have made nothing yet. `Stop` comes for want of memory alone. However it ends, the board isn't shut.
+/// Answers the lines of the first part, of at most 2^28 bytes, as the script of client 0, and then shares what it has
+/// made. The passes have made nothing yet. `Stop` comes for want of memory alone. However it ends, the board isn't
+/// shut.
 pub fn open_first<G: Gate, R: Threads + Wait + Sync>(
     rt: &R,
     alloc: Global,

@@ -6,8 +6,8 @@ ghost use Rattle.dialogues.specs.Dialogues.{Ends as EndsThere};
 ghost use Rattle.dialogues.specs.Lines.{lines_dialogue};
 ghost use Rattle.dialogues.specs.Widths.{widest};
 ghost use Rattle.script_run.specs.Text.{is_malformed};
-ghost use Rattle.script_session.specs.Performing.{Stops};
-ghost use Rattle.script_session.specs.Running.{IsReady, Replies};
+ghost use Rattle.script_session.specs.PerformedDialogue.{Stops};
+ghost use Rattle.script_session.specs.Replies.{IsReady, Replies};
 ghost use Rattle.script_text.specs.Script.{script_of};
 ghost use Rattle.client_run.specs.Laws.{Laws};
 
@@ -44,8 +44,9 @@ fn is_malformed_line(line: &Line) -> bool
     matches!(line, Line::Malformed)
 }
 
-/// Answers each line of a part of at most 2^28 bytes, adds the text of the answers to `reply`, and says whether a line is malformed.
-/// The numbers of the part's lines begin at 1. `Stop` comes for want of memory alone; the session takes no line after it.
+/// Answers each line of a part of at most 2^28 bytes, adds the text of the answers to `reply`, and says whether a line
+/// is malformed. The numbers of the part's lines begin at 1. `Stop` comes for want of memory alone; the session takes
+/// no line after it.
 pub fn answer_part<G: Gate, R: Threads + Wait + Sync>(
     rt: &R,
     alloc: Global,

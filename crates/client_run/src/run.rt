@@ -86,8 +86,8 @@ fn put_traced<K: Sink>(
     Ok(())
 }
 
-// Writes the whole output, text after text, and then the trace where it is asked for. Where memory was wanting for the output, nothing
-// is written.
+// Writes the whole output, text after text, and then the trace where it is asked for. Where memory was wanting for the
+// output, nothing is written.
 fn write_output<K: Sink>(
     alloc: Global,
     trace: bool,

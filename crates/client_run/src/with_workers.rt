@@ -8,7 +8,7 @@ ghost use Rattle.crew.specs.Both.{ArePassesOn, CrewedOnBoth};
 ghost use Rattle.reply_text.specs.Answers.{heading};
 ghost use Rattle.board.specs.Legal.{is_shut};
 ghost use Rattle.script_run.specs.Runs.{AreNew};
-ghost use Rattle.script_session.specs.Gathering.{IsJoined};
+ghost use Rattle.script_session.specs.SharedEnd.{IsJoined};
 ghost use Rattle.script_text.specs.declared.commands.Line.{Line};
 ghost use Rattle.script_text.specs.Script.{script_of};
 ghost use Rattle.shared_board.specs.Passes.{IsPassOn};
@@ -43,7 +43,8 @@ use std::sync::Wait;
 use std::thread::Threads;
 use transforms::{Ask, Finished, Job};
 
-/// What several scripts came to: the texts that they printed, one behind the other, and whether a line of any part is malformed.
+/// What several scripts came to: the texts that they printed, one behind the other, and whether a line of any part is
+/// malformed.
 #[derive(Drop)]
 pub struct Output {
     pub texts: Vec<Reply>,
@@ -156,8 +157,8 @@ fn put_texts(
     Ok(output)
 }
 
-// Puts all texts one behind the other, and the end of the first one's input behind them; the board is shut last, however
-// it ends.
+// Puts all texts one behind the other, and the end of the first one's input behind them; the board is shut last,
+// however it ends.
 fn end_all<G: Gate, R: Wait>(
     rt: &R,
     alloc: Global,

@@ -9,7 +9,7 @@ use Rattle.dialogues.specs.BoardCalls.{BoardCall, board_calls}
 use Rattle.dialogues.specs.Dialogues.{Dialogue, Ends, followed}
 use Rattle.dialogues.specs.Lines.{lines_dialogue}
 use Rattle.dialogues.specs.RegistryCalls.{RegCall, reg_calls}
-use Rattle.dialogues.specs.Sharing.{closing}
+use Rattle.dialogues.specs.SharedTransforms.{closing}
 use Rattle.dialogues.specs.Texts.{AreFirstTexts}
 use Rattle.dialogues.specs.Transcripts.{Transcript, IsTranscript, ended, joined, transcript_of, text_in}
 use Rattle.dialogues.specs.ScriptState.{ScriptState, Live, start}

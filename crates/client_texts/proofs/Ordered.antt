@@ -19,7 +19,7 @@ use Rattle.dialogues.specs.RegistryCalls.{prepend, reg_calls}
 use Rattle.dialogues.specs.Texts.{IsClientText, AreFirstTexts}
 use Rattle.dialogues.specs.Transcripts.{Transcript}
 use Rattle.dialogues.specs.ScriptState.{ScriptState, Live, start, start_beside}
-use Rattle.client_texts.specs.Sharing.{AreInOrder}
+use Rattle.client_texts.specs.OneList.{AreInOrder}
 use Rattle.client_texts.proofs.Submitting.{accepted_call, accepted_calls, Ascends, lines-ascend, end-beside-ascends, closing-ascends}
 
 -- ---- one entry

@@ -9,7 +9,7 @@ use Rattle.transforms.specs.declared.ask.Ask.{Ask}
 use Rattle.dialogues.specs.Texts.{IsClientText, AreFirstTexts}
 use Rattle.dialogues.specs.ScriptState.{ScriptState, Live}
 use Rattle.client_texts.specs.Outputs.{IsOutput}
-use Rattle.client_texts.specs.Sharing.{AreInOrder}
+use Rattle.client_texts.specs.OneList.{AreInOrder}
 
 -- what pipeline p accepted from a client stands in the order of the client's lines
 abbrev pub ClientsInOrder : Type 0

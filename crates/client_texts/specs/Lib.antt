@@ -1,3 +1,3 @@
-pub mod Sharing
+pub mod OneList
 pub mod Outputs
 pub mod Laws

@@ -7,13 +7,13 @@ use Rattle.std.proofs.lemmas.List.{append_assoc, append-nil}
 use Rattle.std.proofs.lemmas.List.Folds.{list_any-append}
 use Rattle.std.proofs.Math.Nat.{eq-or-lt_of_le}
 use Rattle.turn_lock.specs.Turns.{Known, Each, Has, StartsWith, of, gives_number, gets_number, joined, skipped}
-use Rattle.turn_lock.specs.Going.{none_after}
-use Rattle.turn_lock.specs.Going.{starts_through}
+use Rattle.turn_lock.specs.TurnLaws.{none_after}
+use Rattle.turn_lock.specs.TurnLaws.{starts_through}
 use Rattle.turn_lock.proofs.Lists.{each_more}
 use Rattle.board.specs.declared.entry.BoardEntry.{BoardEntry}
 use Rattle.board.specs.Legal.{is_shut, is_shut_entry}
-use Rattle.board.specs.Staying.{is_work}
-use Rattle.crew.specs.Working.{Worked}
+use Rattle.board.specs.PipelineHistory.{is_work}
+use Rattle.crew.specs.BoardWork.{Worked}
 use Rattle.crew.specs.Crews.{Crewed, SawEnd, with_next, CrewsEnd, CrewWorks}
 
 module _ {A : Type 0} where

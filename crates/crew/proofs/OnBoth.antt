@@ -3,10 +3,10 @@ use Rattle.std.proofs.Common.{◌≡◌, ℕ, ◌+◌, ◌<◌, true, ◌++◌, 
 use Rattle.std.specs.List.{list_all}
 use Rattle.turn_lock.specs.Turns.{Known, gets_number}
 use Rattle.turn_lock.specs.Passes.{knows}
-use Rattle.board.specs.Staying.{is_work}
+use Rattle.board.specs.PipelineHistory.{is_work}
 use Rattle.board.specs.Legal.{is_shut}
 use Rattle.alg_registry.specs.declared.entry.RegEntry.{RegEntry}
-use Rattle.shared_registry.specs.Building.{Works, is_building}
+use Rattle.shared_registry.specs.Builds.{Works, is_building}
 use Rattle.shared_registry.specs.Laws.{WorksStill, WorksOn}
 use Rattle.crew.specs.declared.passes.Passes.{Passes}
 use Rattle.crew.specs.Both.{WorkedOnBoth, AreFirst, HaveRoom, HaveNext, AreSplit, AreJoined, CrewedOnBoth}

@@ -5,7 +5,7 @@ use Rattle.std.proofs.lemmas.Bool.{eq-eqb, cases_lt}
 use Rattle.std.proofs.lemmas.List.{append_assoc, append-nil, reverse-append}
 use Rattle.std.proofs.Math.Nat.{eq-or-lt_of_le}
 use Rattle.turn_lock.specs.Turns.{Known, Each, Has, StartsWith, of, gives_number, gets_number, joined, skipped}
-use Rattle.turn_lock.specs.Going.{none_after, starts_through}
+use Rattle.turn_lock.specs.TurnLaws.{none_after, starts_through}
 use Rattle.turn_lock.specs.Passes.{knows}
 use Rattle.turn_lock.proofs.Lists.{each_map}
 use Rattle.crew.specs.declared.passes.Passes.{Passes}

@@ -5,15 +5,15 @@ use Rattle.std.specs.List.{list_all}
 use Rattle.std.proofs.lemmas.List.Folds.{list_all-append}
 use Rattle.std.proofs.lemmas.Bool.{and_from}
 use Rattle.turn_lock.specs.Turns.{Known, sees}
-use Rattle.turn_lock.specs.Meeting.{Meets, AtTurn, Enters, Leaves}
-use Rattle.turn_lock.specs.Going.{stays, goes_left, goes_entered, goes_added, goes_then}
+use Rattle.turn_lock.specs.PassLaws.{Meets, AtTurn, Enters, Leaves}
+use Rattle.turn_lock.specs.TurnLaws.{stays, goes_left, goes_entered, goes_added, goes_then}
 use Rattle.board.specs.declared.entry.BoardEntry.{BoardEntry}
-use Rattle.board.specs.Shapes.{is_pad, is_chain, has_line}
+use Rattle.board.specs.Shapes.{is_pad, is_chain, has_queue}
 use Rattle.board.specs.Entries.{entries_of, caller_of, take_entry, finish_entry, pass_entry, NoneFor, NonePasses}
 use Rattle.board.specs.Legal.{Is, MayManage, IsOpen, LegalBoard}
-use Rattle.board.specs.Staying.{is_work, TakingIsWork, FinishingIsWork, PassingIsWork}
+use Rattle.board.specs.PipelineHistory.{is_work, TakingIsWork, FinishingIsWork, PassingIsWork}
 use Rattle.board.specs.Others.{StaysKnown, WorkLeavesKnown}
-use Rattle.crew.specs.Working.{FinishesFirst, RunsFirst, FindsNoJob, WorksSome, FindsNone, Worked}
+use Rattle.crew.specs.BoardWork.{FinishesFirst, RunsFirst, FindsNoJob, WorksSome, FindsNone, Worked}
 
 module _ {A : Type 0} where
   abbrev Legal : List (BoardEntry A) → Type 0
@@ -124,4 +124,4 @@ module _ {A : Type 0} (leaves : (h es : List (BoardEntry A)) (p caller : ℕ) �
 
   pub open_worked : (k l : Known (BoardEntry A)) (p : ℕ) → Worked k l → MayManage (entries_of p k.seen) k.number → IsOpen (entries_of p k.seen) → IsOpen (entries_of p l.seen)
   open_worked k l p w may (inl o) = inl ((known_worked k l p w may).opened is_pad o)
-  open_worked k l p w may (inr o) = inr ((known_worked k l p w may).opened has_line o)
+  open_worked k l p w may (inr o) = inr ((known_worked k l p w may).opened has_queue o)

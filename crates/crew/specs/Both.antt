@@ -6,10 +6,10 @@ use Rattle.shared_board.specs.declared.shared.SharedBoard.{SharedBoard}
 use Rattle.shared_board.specs.Passes.{IsPassOn}
 use Rattle.shared_registry.specs.declared.registry_lock.SharedRegistry.{SharedRegistry}
 use Rattle.shared_registry.specs.Passes.{IsPassOn as IsRegPassOn}
-use Rattle.shared_registry.specs.Building.{Works, is_building}
-use Rattle.board.specs.Staying.{is_work}
+use Rattle.shared_registry.specs.Builds.{Works, is_building}
+use Rattle.board.specs.PipelineHistory.{is_work}
 use Rattle.crew.specs.declared.passes.Passes.{Passes}
-use Rattle.crew.specs.Working.{Worked}
+use Rattle.crew.specs.BoardWork.{Worked}
 use Rattle.crew.specs.Crews.{Crewed, SawEnd, with_next}
 
 -- the passes are the board's and the registry's
@@ -53,8 +53,8 @@ module _ {A : Type 0} where
     pub board_seen : StartsWith (knows l.board).seen (knows a.board).seen × StartsWith (knows l.board).seen (knows b.board).seen
     pub registry_seen : StartsWith (knows l.registry).seen (knows a.registry).seen × StartsWith (knows l.registry).seen (knows b.registry).seen
 
-  -- The passes l are k, with so many workers joined into them, whose numbers begin at the next of p. On the board there are
-  -- takes and finishes of jobs and passings on alone under their numbers, on the registry builds alone.
+  -- The passes l are k, with so many workers joined into them, whose numbers begin at the next of p. On the board there
+  -- are takes and finishes of jobs and passings on alone under their numbers, on the registry builds alone.
   pub record CrewedOnBoth (workers : ℕ) (p k l : Passes A) : Type 0 where
     pub board : Crewed is_work (knows p.board).next workers (knows k.board) (knows l.board)
     pub registry : Crewed is_building (knows p.registry).next workers (knows k.registry) (knows l.registry)

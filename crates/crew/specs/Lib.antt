@@ -1,4 +1,4 @@
-pub mod Working
+pub mod BoardWork
 pub mod Crews
 pub mod Both
 pub mod Peers

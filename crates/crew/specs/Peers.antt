@@ -1,7 +1,7 @@
 -- Callers that run beside a first one, each with passes of its own, and what they leave of the first one's.
 use Rattle.std.specs.Prelude.{◌≡◌, ◌⊎◌, ℕ, suc, ◌+◌, ◌<◌, ◌≤◌, List, [], ◌∷◌, ◌++◌, length, map, reverse}
 use Rattle.turn_lock.specs.Turns.{Known, StartsWith, Each, Has, Shows, of, gives_number, joined}
-use Rattle.turn_lock.specs.Meeting.{IsOwn}
+use Rattle.turn_lock.specs.PassLaws.{IsOwn}
 use Rattle.turn_lock.specs.Passes.{knows}
 use Rattle.crew.specs.declared.passes.Passes.{Passes}
 
@@ -11,8 +11,8 @@ module _ {E : Type 0} where
     pub kept : Has (λ x. x ≡ (w.number, w.made)) l.ended
     pub seen : StartsWith l.seen w.seen
 
-  -- The pass k is l now. From it passes were split off one after the other, with the numbers from `from` on, and joined into it
-  -- again in the other order; these they were then.
+  -- The pass k is l now. From it passes were split off one after the other, with the numbers from `from` on, and joined
+  -- into it again in the other order; these they were then.
   abbrev pub Peered : ℕ → List (Known E) → Known E → Known E → Type 0
   Peered from [] k l = l ≡ k
   Peered from (w ∷ ws) k l =
@@ -90,7 +90,8 @@ module _ {A : Type 0} where
     abbrev pub AreOuts : List X → List (Passes A × X) → Type 0
     AreOuts outs rs = outs ≡ reverse (map (λ r. r.1) rs)
 
-    -- So many have run from such passes, with the numbers from `from` on; and theirs were joined into the passes p, which are q now.
+    -- So many have run from such passes, with the numbers from `from` on; and theirs were joined into the passes p,
+    -- which are q now.
     abbrev pub RanBeside : (ℕ → Passes A → Passes A → X → Type 0) → ℕ → ℕ → Passes A → List (Passes A × X) → Passes A → Type 0
     RanBeside gives from count p rs q =
         (length rs ≡ count) × RunsOnBoth gives from p rs

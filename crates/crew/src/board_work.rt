@@ -6,7 +6,7 @@ ghost use Rattle.board.specs.declared.board_core.BoardErr.TheVariants as BoardEr
 ghost use Rattle.board.specs.Entries.{entries_of};
 ghost use Rattle.board.specs.Legal.{MayManage, IsOpen, is_shut};
 ghost use Rattle.shared_board.specs.Passes.{IsPassOn};
-ghost use Rattle.crew.specs.Working.{HasTaken, FinishesFirst, WorksSome, FindsNone, Worked, Drained};
+ghost use Rattle.crew.specs.BoardWork.{HasTaken, FinishesFirst, WorksSome, FindsNone, Worked, Drained};
 
 use crate::gate::Gate;
 use board::{BoardErr, Taken, Work, others_leave, pipelines_stay};
@@ -17,8 +17,8 @@ use std::sync::Wait;
 /// So many jobs a caller does at most before it looks for something else.
 const IN_A_ROW: u32 = 64;
 
-/// Runs a job that the pass took, finishes it, and takes the next at the same turn, where there is one for this caller and the board
-/// isn't to be shut. No memory is taken.
+/// Runs a job that the pass took, finishes it, and takes the next at the same turn, where there is one for this caller
+/// and the board isn't to be shut. No memory is taken.
 fn run_and_take<W: Work, G: Gate, R: Wait>(
     rt: &R,
     board: &SharedBoard<W>,
@@ -61,8 +61,8 @@ fn run_and_finish<W: Work, G: Gate, R: Wait>(
     board.finish(rt, pass, slip, out)
 }
 
-/// Runs the job that the pass took, if it took one, and of those that it can take when it finishes one at most so many. True where it
-/// left off at so many: then it finished the last without a look for the next. No memory is taken.
+/// Runs the job that the pass took, if it took one, and of those that it can take when it finishes one at most so many.
+/// True where it left off at so many: then it finished the last without a look for the next. No memory is taken.
 fn run_on<W: Work, G: Gate, R: Wait>(
     rt: &R,
     board: &SharedBoard<W>,
@@ -92,9 +92,9 @@ fn run_on<W: Work, G: Gate, R: Wait>(
     }
 }
 
-/// Takes a job, runs it and finishes it, and goes on with those that are to be had at the turn at which it finishes one, some sixty at
-/// most. Where there was none for this caller, it passes a request of a chain on. False exactly where at the first turn there was no
-/// such job, and at the second no such request. No memory is taken.
+/// Takes a job, runs it and finishes it, and goes on with those that are to be had at the turn at which it finishes
+/// one, some sixty at most. Where there was none for this caller, it passes a request of a chain on. False exactly
+/// where at the first turn there was no such job, and at the second no such request. No memory is taken.
 pub fn work_some<W: Work, G: Gate, R: Wait>(
     rt: &R,
     board: &SharedBoard<W>,
@@ -110,8 +110,8 @@ pub fn work_some<W: Work, G: Gate, R: Wait>(
     (pass, found)
 }
 
-/// The same by a look that is due. Where it found something, a wait that was announced is over before a job runs, and else its caller may
-/// sleep. It answers also whether it left off with no look for the next job.
+/// The same by a look that is due. Where it found something, a wait that was announced is over before a job runs, and
+/// else its caller may sleep. It answers also whether it left off with no look for the next job.
 fn work_by<'a, W: Work, G: Gate, R: Wait>(
     rt: &R,
     board: &SharedBoard<W>,
@@ -137,8 +137,9 @@ fn work_by<'a, W: Work, G: Gate, R: Wait>(
     }
 }
 
-/// Works some, and passes a request of a chain on also where it did jobs, so that a steady load of these doesn't keep chains waiting.
-/// Answers whether it found anything, and whether it has to look again. Where it found nothing after it had announced a wait, it may sleep.
+/// Works some, and passes a request of a chain on also where it did jobs, so that a steady load of these doesn't keep
+/// chains waiting. Answers whether it found anything, and whether it has to look again. Where it found nothing after it
+/// had announced a wait, it may sleep.
 pub(crate) fn work_in_turn<'a, W: Work, G: Gate, R: Wait>(
     rt: &R,
     board: &SharedBoard<W>,
@@ -159,8 +160,8 @@ pub(crate) fn work_in_turn<'a, W: Work, G: Gate, R: Wait>(
     (pass, true, more || passed, None)
 }
 
-/// Does one job after another, and passes requests on, until there is none to be had or the board may be shut. It begins with the look
-/// that is due. No memory is taken.
+/// Does one job after another, and passes requests on, until there is none to be had or the board may be shut. It
+/// begins with the look that is due. No memory is taken.
 fn work_while<W: Work, G: Gate, R: Wait>(
     rt: &R,
     board: &SharedBoard<W>,
@@ -185,10 +186,10 @@ fn work_while<W: Work, G: Gate, R: Wait>(
     unreachable!()
 }
 
-/// Works until each request of the pipeline is finished, and hands out what no call handed out before. A caller that finds
-/// nothing to do sleeps until another has finished a job of the pipeline or passed a request on. The caller made the pipeline, which isn't
-/// closed. On a queue or chain that is held while a request waits it never returns, since only its maker may let it go. Only
-/// want of memory refuses, and hands out nothing.
+/// Works until each request of the pipeline is finished, and hands out what no call handed out before. A caller that
+/// finds nothing to do sleeps until another has finished a job of the pipeline or passed a request on. The caller made
+/// the pipeline, which isn't closed. On a queue or chain that is held while a request waits it never returns, since
+/// only its maker may let it go. Only want of memory refuses, and hands out nothing.
 pub fn drain<W: Work, G: Gate, R: Wait>(
     rt: &R,
     board: &SharedBoard<W>,

@@ -4,7 +4,7 @@ ghost use Rattle.std.specs.Prelude.{◌≡◌, true, IfNone};
 ghost use Rattle.turn_lock.specs.Passes.{knows};
 ghost use Rattle.board.specs.Legal.{is_shut};
 ghost use Rattle.shared_registry.specs.Passes.{IsPassOn as IsRegPassOn};
-ghost use Rattle.shared_registry.specs.Building.{Works};
+ghost use Rattle.shared_registry.specs.Builds.{Works};
 ghost use Rattle.crew.specs.Both.{ArePassesOn, WorkedOnBoth};
 
 use crate::board_work::{sleep, work_in_turn};
@@ -25,8 +25,8 @@ struct Looked {
     again: bool,
 }
 
-/// Claims and builds one larval, where one may wait, and ends an announced wait before. False where none does. Where memory runs out
-/// the larval that was claimed is ended with that, and it pauses for a millisecond.
+/// Claims and builds one larval, where one may wait, and ends an announced wait before. False where none does. Where
+/// memory runs out the larval that was claimed is ended with that, and it pauses for a millisecond.
 fn build_if_any<W: Work, R: Wait>(
     rt: &R,
     alloc: Global,
@@ -51,9 +51,9 @@ fn build_if_any<W: Work, R: Wait>(
     (pass, true)
 }
 
-/// Does what jobs wait for this caller, some sixty at most, passes a request on where a chain has one, and builds one larval where
-/// one waits. Where it finds nothing after it has announced a wait, it may sleep. Where memory runs out while it builds, a larval that was
-/// claimed is ended with `NoMemory`.
+/// Does what jobs wait for this caller, some sixty at most, passes a request on where a chain has one, and builds one
+/// larval where one waits. Where it finds nothing after it has announced a wait, it may sleep. Where memory runs out
+/// while it builds, a larval that was claimed is ended with `NoMemory`.
 fn work_or_build<'a, W: Work, G: Gate, R: Wait>(
     rt: &R,
     alloc: Global,
@@ -161,8 +161,9 @@ fn look_at_end<'a, W: Work, R: Wait>(
     (passes, due)
 }
 
-/// Works until the board is shut: does what jobs wait, passes requests on, and builds larvals. After some sixty jobs the other two have
-/// their turn. A worker that finds nothing stays awake for a while, and then sleeps until a job comes, a larval begins or it is called.
+/// Works until the board is shut: does what jobs wait, passes requests on, and builds larvals. After some sixty jobs
+/// the other two have their turn. A worker that finds nothing stays awake for a while, and then sleeps until a job
+/// comes, a larval begins or it is called.
 pub fn work_on<W: Work, G: Gate, R: Wait>(
     rt: &R,
     alloc: Global,

@@ -150,10 +150,10 @@ fn take_back<T>(x: &mut T)
     ensures { x.new ≡ x.old }
 {}
 
-/// Calls `main` once, beside at most 16 workers that work until the board is shut. The passes are the first of both locks, with the
-/// number 0, none given and none joined. Worker i, counted from 1, has the number i on both
-/// locks; `main` gets the passes, whose next numbers are then `workers + 1`. The passes that come back are those that `main`
-/// gave back, with the workers' joined into them.
+/// Calls `main` once, beside at most 16 workers that work until the board is shut. The passes are the first of both
+/// locks, with the number 0, none given and none joined. Worker i, counted from 1, has the number i on both
+/// locks; `main` gets the passes, whose next numbers are then `workers + 1`. The passes that come back are those that
+/// `main` gave back, with the workers' joined into them.
 pub fn run_crew<
     W: Work,
     G: Gate + Sync,

@@ -17,8 +17,8 @@ impl Gate for NoGate {
     fn inside(&self) {}
 }
 
-/// The gate that holds whoever is inside a job until so many have been inside one. Who has waited for long goes on alone.
-/// It shows that jobs run at the same time.
+/// The gate that holds whoever is inside a job until so many have been inside one. Who has waited for long goes on
+/// alone. It shows that jobs run at the same time.
 #[derive(Drop)]
 pub struct BarrierGate {
     many: u64,

@@ -4,8 +4,8 @@ ghost use Rattle.std.specs.Prelude.{ℕ, List};
 ghost use Rattle.turn_lock.specs.Turns.{Known};
 ghost use Rattle.crew.specs.Peers.{PeersLeave, PeersTakeNumbers, PeersHaveEnded, EndedStays, EndedAreAlone, FirstIsAlone, CallersAre};
 
-/// Passes that were split off from a first one and joined into it again leave it its number and its entries, and end in it; at the end
-/// of the lock others alone follow on what each of them, and the first, had seen.
+/// Passes that were split off from a first one and joined into it again leave it its number and its entries, and end in
+/// it; at the end of the lock others alone follow on what each of them, and the first, had seen.
 pub fn peers_end<E>()
     ensures leave { (from : ℕ) (ws : List (Known E)) (k l : Known E) → PeersLeave from ws k l }
     ensures numbers { (from : ℕ) (w : Known E) (ws : List (Known E)) (k l : Known E) → PeersTakeNumbers from w ws k l }

@@ -87,8 +87,9 @@ fn run_peer<W: Work, P: Peer<Passes<W::Ask>>>(
     peer.run(number, passes)
 }
 
-/// Runs so many callers, each beside the others and with passes of its own, whose numbers begin at `number` on both locks; then joins
-/// their passes into the first caller's. Want of memory loses what they gave, and nothing else: each has ended.
+/// Runs so many callers, each beside the others and with passes of its own, whose numbers begin at `number` on both
+/// locks; then joins their passes into the first caller's. Want of memory loses what they gave, and nothing else: each
+/// has ended.
 pub fn run_peers<
     W: Work,
     X: Drop + Send,

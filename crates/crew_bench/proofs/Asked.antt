@@ -13,9 +13,9 @@ use Rattle.alg_registry.specs.declared.entry.RegEntry.TheVariants.{Look, Waited}
 use Rattle.alg_registry.specs.Rows.{caller_of, texts, begun_by, rows_of, larvals_of}
 use Rattle.alg_registry.specs.Answers.{look_answer}
 use Rattle.alg_registry.specs.Legal.{ended_as}
-use Rattle.alg_registry.specs.Naming.{LooksName}
+use Rattle.alg_registry.specs.NamedAnswers.{LooksName}
 use Rattle.turn_lock.specs.Turns.{Known}
-use Rattle.turn_lock.specs.Meeting.{AtTurn, Enters, Leaves}
+use Rattle.turn_lock.specs.PassLaws.{AtTurn, Enters, Leaves}
 use Rattle.shared_registry.specs.Faithful.{IsFaithful}
 use Rattle.shared_registry.specs.Passes.{EntersIf}
 use Rattle.alg_names.specs.Spelled.{tree_of}

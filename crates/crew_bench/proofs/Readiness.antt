@@ -7,16 +7,16 @@ use Rattle.std.proofs.lemmas.List.Folds.{list_any-append}
 use Rattle.kc_base.specs.declared.callback_list.Callback.{Callback}
 use Rattle.turn_lock.specs.Turns.{Known, gets_number, fresh_pass}
 use Rattle.turn_lock.specs.Passes.{knows}
-use Rattle.turn_lock.specs.Meeting.{Meets, AtTurn, Enters, Leaves}
+use Rattle.turn_lock.specs.PassLaws.{Meets, AtTurn, Enters, Leaves}
 use Rattle.board.specs.declared.entry.Shape.TheVariants.{Pad}
 use Rattle.board.specs.declared.entry.BoardEntry.{BoardEntry}
 use Rattle.board.specs.declared.entry.BoardEntry.TheVariants.{Born, Share}
 use Rattle.board.specs.Shapes.{is_pad}
 use Rattle.board.specs.Entries.{entries_of, is_close, is_share, is_shared, caller_of}
 use Rattle.board.specs.Legal.{MaySubmit, IsOpenPad, LegalBoard, is_shut, is_shut_entry}
-use Rattle.board.specs.Staying.{IsOpenFor, is_work}
+use Rattle.board.specs.PipelineHistory.{IsOpenFor, is_work}
 use Rattle.crew.specs.declared.passes.Passes.{Passes}
-use Rattle.crew.specs.Working.{Worked, Drained}
+use Rattle.crew.specs.BoardWork.{Worked, Drained}
 use Rattle.crew.specs.Both.{AreFirst}
 use Rattle.crew_bench.specs.Learned.{BoardLaws}
 use Rattle.crew_bench.specs.Ready.{StaysFirst, Ready}

@@ -3,9 +3,9 @@ use Rattle.std.specs.Prelude.{ℕ, Bool, List}
 use Rattle.turn_lock.specs.Turns.{Known}
 use Rattle.board.specs.declared.entry.Shape.{Shape}
 use Rattle.board.specs.declared.entry.BoardEntry.{BoardEntry}
-use Rattle.board.specs.Staying.{Opens, StaysOpen, StaysManaged, Joins}
+use Rattle.board.specs.PipelineHistory.{Opens, StaysOpen, StaysManaged, Joins}
 use Rattle.board.specs.Others.{WorkLeavesOwn}
-use Rattle.shared_board.specs.Meeting.{WhatIsKnownHolds}
+use Rattle.shared_board.specs.Knowledge.{WhatIsKnownHolds}
 
 pub record BoardLaws {A O : Type 0} (meaning : A → O) : Type 0 where
   pub holds : (k : Known (BoardEntry A)) (h : List (BoardEntry A)) → WhatIsKnownHolds meaning k h

@@ -4,7 +4,7 @@ use Rattle.turn_lock.specs.Turns.{Known}
 use Rattle.board.specs.declared.entry.BoardEntry.{BoardEntry}
 use Rattle.board.specs.Shapes.{is_pad}
 use Rattle.board.specs.Legal.{is_shut}
-use Rattle.board.specs.Staying.{IsOpenFor}
+use Rattle.board.specs.PipelineHistory.{IsOpenFor}
 
 -- the first pass of a board that isn't shut
 abbrev pub IsFirst : {A : Type 0} → Known (BoardEntry A) → Type 0

@@ -3,12 +3,12 @@ use Rattle.kc_base.specs.declared.callback_list.Callback.{Callback}
 use Rattle.kc_base.specs.declared.callback_list.Callback.TheVariants.{Started}
 use Rattle.request_queue.specs.declared.Verdict.{Verdict}
 use Rattle.request_queue.specs.declared.Verdict.TheVariants.{InProgress, Busy, NoSpace}
-use Rattle.request_queue.specs.Line.{Line}
+use Rattle.request_queue.specs.BoundedQueue.{BoundedQueue}
 
--- A queue that is served one job at a time: the line of those that wait, whether it is held, whether a job of it
+-- A queue that is served one job at a time: the queue of those that wait, whether it is held, whether a job of it
 -- runs, how many were passed on and aren't released, and the callbacks that are not collected yet.
 pub record Server (J F : Type 0) : Type 0 where
-  pub line : Line J
+  pub queue : BoundedQueue J
   pub held : Bool
   pub busy : Bool
   pub passed : ℕ
@@ -27,16 +27,16 @@ spare_after spare (NoSpace job) = spare
 
 -- all of it but the room that is kept for more jobs
 abbrev pub bare : {J F : Type 0} → Server J F → Server J F
-bare server = record server { spare = 0; line = record server.line { spare = 0 } }
+bare server = record server { spare = 0; queue = record server.queue { spare = 0 } }
 
 -- it is held, or busy, or no job waits
 abbrev pub ServesNone : {J F : Type 0} → Server J F → Type 0
-ServesNone server = (server.held ≡ true) ⊎ ((server.busy ≡ true) ⊎ (server.line.waiting ≡ []))
+ServesNone server = (server.held ≡ true) ⊎ ((server.busy ≡ true) ⊎ (server.queue.waiting ≡ []))
 
 -- the first job has left, these wait, and the number that has started by that is told
 abbrev pub after_first : {J F : Type 0} → Server J F → Option ℕ → List J → Server J F
 after_first server started rest =
     record server {
-      line = record server.line { served = server.line.served + 1; waiting = rest };
+      queue = record server.queue { served = server.queue.served + 1; waiting = rest };
       pending = server.pending ++ started_callback started;
     }

@@ -3,7 +3,7 @@
 
 ghost use Rattle.std.specs.Prelude.{◌≡◌, ℕ, ◌+◌, ◌-◌, ◌*◌, ◌^◌, ◌<◌, ◌≤◌, nat_lt, Bool, true, false, ◌||◌, List, [], ◌∷◌, ◌++◌, length, OnOk, MatchBool, MatchOption, ◌⊎◌};
 ghost use Rattle.kc_base.specs.declared.callback_list.Callback.TheVariants as Callback;
-ghost use Rattle.request_queue.specs.Line.{accepted, verdict_on, line_after, number_at_bound};
+ghost use Rattle.request_queue.specs.BoundedQueue.{accepted, verdict_on, queue_after, number_at_bound};
 ghost use Rattle.std.specs.VecDeque.{deque_len, deque_capacity};
 ghost use Rattle.cryptd.specs.Server.{started_callback, spare_after, bare, ServesNone, after_first};
 
@@ -34,7 +34,7 @@ impl<J, F> Model for Cryptd<J, F> {
     ghost Value = { Server J F };
 
     ghost view = { λ c. record {
-      line = c.queue;
+      queue = c.queue;
       held = c.held;
       busy = c.busy;
       passed = c.passed;
@@ -51,8 +51,8 @@ impl<J: Drop, F: Drop> Cryptd<J, F> {
     /// An empty queue of bound `max`, at least 1, with room for no job, neither held nor busy.
     pub fn new(alloc: Global, max: u32) -> Cryptd<J, F>
         requires { 1 ≤ max }
-        ensures line { result.line ≡ record { max = max; served = 0; waiting = []; spare = 0 } }
-        ensures server { result ≡ record { line = result.line; held = false; busy = false; passed = 0; pending = []; spare = 0 } }
+        ensures queue { result.queue ≡ record { max = max; served = 0; waiting = []; spare = 0 } }
+        ensures server { result ≡ record { queue = result.queue; held = false; busy = false; passed = 0; pending = []; spare = 0 } }
     {
         Cryptd {
             queue: Queue::new(alloc, max),
@@ -66,14 +66,14 @@ impl<J: Drop, F: Drop> Cryptd<J, F> {
 
     /// How many were accepted.
     pub fn accepted(&self) -> u64
-        ensures { result ≡ accepted self.now.line }
+        ensures { result ≡ accepted self.now.queue }
     {
         self.queue.accepted()
     }
 
     /// Whether a job that came now would be accepted: fewer than `max` wait, or it may wait in the backlog.
     pub fn accepts(&self, backlog: bool) -> bool
-        ensures { result ≡ (nat_lt (length self.now.line.waiting) self.now.line.max || backlog) }
+        ensures { result ≡ (nat_lt (length self.now.queue.waiting) self.now.queue.max || backlog) }
     {
         self.queue.accepts(backlog)
     }
@@ -81,7 +81,7 @@ impl<J: Drop, F: Drop> Cryptd<J, F> {
     /// Whether a job would be served now: some wait, none runs, and the queue isn't held.
     pub fn may_serve(&self) -> bool
         ensures { MatchBool result
-            ((self.now.held ≡ false) × (self.now.busy ≡ false) × (0 < length self.now.line.waiting))
+            ((self.now.held ≡ false) × (self.now.busy ≡ false) × (0 < length self.now.queue.waiting))
             (ServesNone self.now) }
     {
         !self.held && !self.busy && self.queue.len() > 0
@@ -90,8 +90,8 @@ impl<J: Drop, F: Drop> Cryptd<J, F> {
     /// Whether each accepted job is done.
     pub fn is_idle(&self) -> bool
         ensures { MatchBool result
-            ((self.now.busy ≡ false) × (length self.now.line.waiting ≡ 0))
-            ((self.now.busy ≡ true) ⊎ (0 < length self.now.line.waiting)) }
+            ((self.now.busy ≡ false) × (length self.now.queue.waiting ≡ 0))
+            ((self.now.busy ≡ true) ⊎ (0 < length self.now.queue.waiting)) }
     {
         !self.busy && self.queue.len() == 0
     }
@@ -127,11 +127,11 @@ impl<J: Drop, F: Drop> Cryptd<J, F> {
     /// Otherwise hands it back. `number` is how many were accepted before, fewer than 2^63. There must be room for one.
     pub fn enqueue(&mut self, number: u64, job: J, backlog: bool) -> Verdict<J>
         requires spare { 1 ≤ self.old.spare }
-        requires number { number ≡ accepted self.old.line }
+        requires number { number ≡ accepted self.old.queue }
         requires small { number < 2 ^ 63 }
-        ensures verdict { result ≡ verdict_on (length self.old.line.waiting) self.old.line.max backlog job }
+        ensures verdict { result ≡ verdict_on (length self.old.queue.waiting) self.old.queue.max backlog job }
         ensures server { self.new ≡ record self.old {
-          line = line_after self.old.line job result;
+          queue = queue_after self.old.queue job result;
           spare = spare_after self.old.spare result;
         } }
     {
@@ -164,9 +164,9 @@ impl<J: Drop, F: Drop> Cryptd<J, F> {
         ensures { MatchOption result
             (ServesNone self.old × (self.new ≡ self.old))
             (λ s. (self.old.held ≡ false) × (self.old.busy ≡ false)
-            × (s.number ≡ self.old.line.served) × (s.started ≡ number_at_bound self.old.line)
-            × (self.old.line.waiting ≡ s.item ∷ self.new.line.waiting)
-            × (self.new ≡ record (after_first self.old s.started self.new.line.waiting) { busy = true })) }
+            × (s.number ≡ self.old.queue.served) × (s.started ≡ number_at_bound self.old.queue)
+            × (self.old.queue.waiting ≡ s.item ∷ self.new.queue.waiting)
+            × (self.new ≡ record (after_first self.old s.started self.new.queue.waiting) { busy = true })) }
     {
         if self.held || self.busy {
             return None;
@@ -180,7 +180,7 @@ impl<J: Drop, F: Drop> Cryptd<J, F> {
     /// Records the outcome of the job that runs, by its number.
     pub fn done(&mut self, number: u64, out: F)
         requires runs { self.old.busy ≡ true }
-        requires number { number + 1 ≡ self.old.line.served }
+        requires number { number + 1 ≡ self.old.queue.served }
         ensures { self.new ≡ record self.old { busy = false; pending = self.old.pending ++ Callback.Done number out ∷ [] } }
     {
         let _ = self.pending.push_back(Callback::Done(number, out));
@@ -193,11 +193,11 @@ impl<J: Drop, F: Drop> Cryptd<J, F> {
     pub fn pass_on(&mut self) -> Option<Served<J>>
         requires apart { self.old.busy ≡ false }
         ensures { MatchOption result
-            (((self.old.held ≡ true) ⊎ (self.old.line.waiting ≡ [])) × (self.new ≡ self.old))
+            (((self.old.held ≡ true) ⊎ (self.old.queue.waiting ≡ [])) × (self.new ≡ self.old))
             (λ s. (self.old.held ≡ false)
-            × (s.number ≡ self.old.line.served) × (s.started ≡ number_at_bound self.old.line)
-            × (self.old.line.waiting ≡ s.item ∷ self.new.line.waiting)
-            × (self.new ≡ record (after_first self.old s.started self.new.line.waiting) { passed = self.old.passed + 1 })) }
+            × (s.number ≡ self.old.queue.served) × (s.started ≡ number_at_bound self.old.queue)
+            × (self.old.queue.waiting ≡ s.item ∷ self.new.queue.waiting)
+            × (self.new ≡ record (after_first self.old s.started self.new.queue.waiting) { passed = self.old.passed + 1 })) }
     {
         if self.held {
             return None;
@@ -211,7 +211,7 @@ impl<J: Drop, F: Drop> Cryptd<J, F> {
     /// Tells the outcome of the first job of those that were passed on and aren't released.
     pub fn release(&mut self, number: u64, out: F)
         requires passed { 1 ≤ self.old.passed }
-        requires number { number + self.old.passed ≡ self.old.line.served }
+        requires number { number + self.old.passed ≡ self.old.queue.served }
         ensures { self.new ≡ record self.old { passed = self.old.passed - 1; pending = self.old.pending ++ Callback.Done number out ∷ [] } }
     {
         let _ = self.pending.push_back(Callback::Done(number, out));
@@ -220,14 +220,14 @@ impl<J: Drop, F: Drop> Cryptd<J, F> {
 
     /// How many jobs wait.
     pub fn waiting(&self) -> usize
-        ensures { result ≡ length self.now.line.waiting }
+        ensures { result ≡ length self.now.queue.waiting }
     {
         self.queue.len()
     }
 
     /// How many jobs wait, or were passed on and aren't released.
     pub fn unreleased(&self) -> usize
-        ensures { result ≡ length self.now.line.waiting + self.now.passed }
+        ensures { result ≡ length self.now.queue.waiting + self.now.passed }
     {
         self.queue.len() + self.passed
     }

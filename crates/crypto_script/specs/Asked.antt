@@ -124,7 +124,8 @@ module _ (held held' : Option (List ℕ)) (ran : Outcome) where
       GainsFront held held' (IsFrontText options.workers (start 0) 0 (script_of script) ran.registry ran.board)
       (IsTextIn ran options script) (trace_in ran options.trace)
 
-  -- a text cut off in a line or at the end of input, by all calls that the script made, or the whole and a front of the trace
+  -- a text cut off in a line or at the end of input, by all calls that the script made, or the whole and a front of the
+  -- trace
   abbrev pub WritesCutOff : ScriptOptions → List ℕ → Type 0
   WritesCutOff options script =
       GainsFront held held' (IsCutOff options.workers (script_of script) ran.registry ran.board)

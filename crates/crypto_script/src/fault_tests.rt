@@ -24,8 +24,9 @@ fn number_of(fault: Fault) -> u64 {
     }
 }
 
-// A row that is read byte by byte, and written three bytes at once, ends so where this call fails: with this status, a front of the text
-// and the board shut, whose history is legal by a clause of `run`; and with the whole text where no call fails.
+// A row that is read byte by byte, and written three bytes at once, ends so where this call fails: with this status, a
+// front of the text and the board shut, whose history is legal by a clause of `run`; and with the whole text where no
+// call fails.
 fn expect_fault<R: Abort + Threads + Wait + Sync>(
     rt: &R,
     alloc: Global,

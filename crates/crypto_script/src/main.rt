@@ -1,4 +1,5 @@
-//! A script of the crypto API on standard input, or several at once, whose lines are answered on standard output; or a load of requests.
+//! A script of the crypto API on standard input, or several at once, whose lines are answered on standard output; or a
+//! load of requests.
 #![tactic(auto)]
 
 #[cfg(test)]

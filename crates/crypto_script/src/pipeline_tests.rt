@@ -400,7 +400,8 @@ fn push_completion(rt: &impl Abort, text: &mut String, answer: &str) {
     push_all(rt, text, &[number, " done ", made, "\n"]);
 }
 
-// The answers of the lines from 7 on that fall to one of three transforms, as completions, and then the transform's end.
+// The answers of the lines from 7 on that fall to one of three transforms, as completions, and then the transform's
+// end.
 fn push_completions(
     rt: &impl Abort,
     text: &mut String,

@@ -14,7 +14,7 @@ ghost use Rattle.command_line.specs.CommandLine.{IsWithinLimits};
 ghost use Rattle.script_run.specs.Endings.{EndsShut, IsShutOnce};
 ghost use Rattle.script_run.specs.Runs.{ReadsUpTo, InTurn};
 ghost use Rattle.script_run.specs.Statuses.{status_of};
-ghost use Rattle.client_texts.specs.Sharing.{AreOneList, AreCallersBeside};
+ghost use Rattle.client_texts.specs.OneList.{AreOneList, AreCallersBeside};
 ghost use Rattle.crypto_script.specs.Asked.{AsksScript, AsksClients, AsksScripts, AsksLoad, AsksNothing, UnlessAsked, ForScript, ForClients, ForLoad, workers_for, clients_for};
 ghost use Rattle.crypto_script.specs.Asked.{OfScript, OfEndedScript, OfScriptAt, OfGiven, OfEndedInput, OfStoppedInput, IsUnbegun};
 ghost use Rattle.crypto_script.specs.Asked.{WritesText, WritesPlainText, WritesByLines, WritesFront, WritesCutOff, WritesBrokenOff, WritesAnswered, WritesUpTo, WritesFirst, WritesOutput, WritesFrontOrNone};
@@ -93,12 +93,13 @@ fn outcome_of(ran: RunResult) -> Outcome
     }
 }
 
-/// Does all that the program does: reads a script from the source, and writes the answers of its lines to the sink, and then the
-/// run's trace, where the words ask for it; or reads several scripts, runs them at once behind a first part whose transforms they
-/// share, and writes their answers when all have ended; or makes the requests of a load, and writes its line. Of a script it reads at
-/// most 65,536 bytes at once, and only where the answers to each whole line of what it has are written. The words are the program's
-/// arguments without its name. Beside the scripts, or the load, stand as many workers as the words ask for, which do their jobs and
-/// build their instances; they pass the gate with each job.
+/// Does all that the program does: reads a script from the source, and writes the answers of its lines to the sink, and
+/// then the run's trace, where the words ask for it; or reads several scripts, runs them at once behind a first part
+/// whose transforms they share, and writes their answers when all have ended; or makes the requests of a load, and
+/// writes its line. Of a script it reads at most 65,536 bytes at once, and only where the answers to each whole line of
+/// what it has are written. The words are the program's arguments without its name. Beside the scripts, or the load,
+/// stand as many workers as the words ask for, which do their jobs and build their instances; they pass the gate with
+/// each job.
 ///
 /// | status | comes |
 /// |---|---|
@@ -118,9 +119,9 @@ pub fn run<S: Source, K: Sink, G: Gate + Sync, R: Threads + Wait + Sync>(
     out: &mut K,
 ) -> Outcome
     // A script that reaches its end (0, 1): it was read whole, its text was written, then the trace where the words ask
-    // for it, which can be read back, and the board was shut last. It has called the registry in turn, with as many looks
-    // at once as a probe has names. What a settled script writes is a function of its lines alone: the same beside every
-    // number of workers.
+    // for it, which can be read back, and the board was shut last. It has called the registry in turn, with as many
+    // looks at once as a probe has names. What a settled script writes is a function of its lines alone: the same
+    // beside every number of workers.
     ensures ended { AsksScript words.now → result.status ≤ 1 → IfSome (S.left src.old) (λ _. S.left src.new ≡ Some []) }
     ensures whole { OfEndedScript result words.now (S.left src.old) (WritesText (K.held out.old) (K.held out.new)) }
     ensures readable { ForScript words.now (λ o. o.trace ≡ true → result.status ≤ 1 → TraceCanBeRead result (S.left src.old)) }
@@ -130,8 +131,8 @@ pub fn run<S: Source, K: Sink, G: Gate + Sync, R: Threads + Wait + Sync>(
     ensures settled { OfEndedScript result words.now (S.left src.old) (WritesPlainText (K.held out.old) (K.held out.new)) }
 
     // Several scripts at once that reach their end (0, 1): the same of the whole input and the whole output, the first
-    // part's text, the clients' and that of the end. A pipeline that they share has one list of requests, in which those
-    // of each stand in the order of its lines; each was handed out.
+    // part's text, the clients' and that of the end. A pipeline that they share has one list of requests, in which
+    // those of each stand in the order of its lines; each was handed out.
     ensures clients_ended { AsksClients words.now → result.status ≤ 1 → IfSome (S.left src.old) (λ _. S.left src.new ≡ Some []) }
     ensures clients_whole { OfEndedInput result words.now (S.left src.old) (WritesOutput (K.held out.old) (K.held out.new)) }
     ensures clients_readable { ForClients words.now (λ o. o.trace ≡ true → result.status ≤ 1 → TraceCanBeRead result (S.left src.old)) }
@@ -139,8 +140,8 @@ pub fn run<S: Source, K: Sink, G: Gate + Sync, R: Threads + Wait + Sync>(
     ensures clients_malformed { OfEndedInput result words.now (S.left src.old) SaysAnyMalformed }
     ensures one_list { ForClients words.now (λ options. result.status ≤ 1 → AreOneList options.clients result.board) }
 
-    // A load that reaches its end (0): its line was written, pads 0 and 1 have accepted its requests and handed each out,
-    // and the board was shut last.
+    // A load that reaches its end (0): its line was written, pads 0 and 1 have accepted its requests and handed each
+    // out, and the board was shut last.
     ensures load_line { ForLoad words.now (λ l. result.status ≡ 0 → Appends (K.held out.old) (K.held out.new) (load_line l.seed l.count)) }
     ensures loaded { ForLoad words.now (λ load. result.status ≡ 0 → AreLoaded load.seed load.count result.board) }
     ensures load_shut { AsksLoad words.now → result.status ≡ 0 → EndsShut result.board }
@@ -156,16 +157,17 @@ pub fn run<S: Source, K: Sink, G: Gate + Sync, R: Threads + Wait + Sync>(
     ensures answered { OfGiven result words.now 3 (S.left src.old) (S.left src.new) (WritesAnswered (K.held out.old) (K.held out.new)) }
     ensures clients_unwritten { AsksClients words.now → DidNotRead result → Keeps (K.held out.old) (K.held out.new) }
 
-    // 4: the sink failed. It has gained the text of the lines that stood before the last 65,536 bytes, or more. The script
-    // has made the calls of what is answered, and none besides but the shut: only of the last line, or of the end of input,
-    // may the text stand there in part. Of several scripts nothing was written, or a front; so too under 5.
+    // 4: the sink failed. It has gained the text of the lines that stood before the last 65,536 bytes, or more. The
+    // script has made the calls of what is answered, and none besides but the shut: only of the last line, or of the
+    // end of input, may the text stand there in part. Of several scripts nothing was written, or a front; so too under
+    // 5.
     ensures write_fault { result.status ≡ 4 → Rose (K.faults out.old) (K.faults out.new) }
     ensures answered_front { OfGiven result words.now 4 (S.left src.old) (S.left src.new) (WritesFirst (K.held out.old) (K.held out.new)) }
     ensures called { OfScriptAt result words.now 4 (S.left src.old) (WritesCutOff (K.held out.old) (K.held out.new)) }
     ensures clients_front { OfStoppedInput result words.now (S.left src.old) (WritesFrontOrNone (K.held out.old) (K.held out.new)) }
 
-    // 5: memory is wanting. As under 4; or the sink has gained the text of first lines, which are answered, and the script
-    // has made the first calls of the next line, or of the end of input, and none besides but the shut.
+    // 5: memory is wanting. As under 4; or the sink has gained the text of first lines, which are answered, and the
+    // script has made the first calls of the next line, or of the end of input, and none besides but the shut.
     ensures stopped { OfScriptAt result words.now 5 (S.left src.old) (WritesBrokenOff (K.held out.old) (K.held out.new)) }
 
     // 6: the source gave more than 2^28 bytes. The lines of a front of them are answered whole that is at most a read
@@ -183,10 +185,10 @@ pub fn run<S: Source, K: Sink, G: Gate + Sync, R: Threads + Wait + Sync>(
     ensures load_status { AsksLoad words.now → (result.status ≡ 0) ⊎ (result.status ≡ 4) ⊎ (result.status ≡ 5) }
     ensures known { result.status ≤ 6 }
 
-    // Whatever ended it: each entry of a history is right for those before it, each instance is what its template makes of
-    // its children, and only the first script, or the load, the workers and the clients made entries. The board was shut
-    // once; after that the workers alone made entries, and all of these are work. So beside no workers the shut is last.
-    // Only under 2 and 5, and with clients from 3 on, may there be no board; then nothing was recorded.
+    // Whatever ended it: each entry of a history is right for those before it, each instance is what its template makes
+    // of its children, and only the first script, or the load, the workers and the clients made entries. The board was
+    // shut once; after that the workers alone made entries, and all of these are work. So beside no workers the shut is
+    // last. Only under 2 and 5, and with clients from 3 on, may there be no board; then nothing was recorded.
     ensures legal { LegalReg result.registry }
     ensures legal_board { LegalBoard result.board }
     ensures faithful { Made table result.registry }

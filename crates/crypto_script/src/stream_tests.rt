@@ -47,7 +47,8 @@ fn slow_sink(rt: &impl Abort, alloc: Global, step: usize, fault: Fault) -> MemSi
     MemSink::new(alloc, step, failing)
 }
 
-/// How a run ends, and what it has written, where a read gives so many bytes at most, a write takes so many, and one call fails.
+/// How a run ends, and what it has written, where a read gives so many bytes at most, a write takes so many, and one
+/// call fails.
 pub fn run_slow<R: Abort + Threads + Wait + Sync>(
     rt: &R,
     alloc: Global,
@@ -119,8 +120,8 @@ fn first_lines(rt: &impl Abort, alloc: Global, text: &str, count: usize) -> Stri
     first
 }
 
-// The status and the text of the script's run where the read of this number fails: the lines whose line feed came before it are
-// answered.
+// The status and the text of the script's run where the read of this number fails: the lines whose line feed came
+// before it are answered.
 fn wanted_by(rt: &impl Abort, alloc: Global, step: usize, number: u32) -> (u8, String) {
     let given = step.saturating_mul(number as usize);
     if given.saturating_sub(step) >= SCRIPT.len() {

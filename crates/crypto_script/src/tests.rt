@@ -35,8 +35,8 @@ pub const TEXT: &str = "\
 3 malformed
 ";
 
-// A script that uses a plain transform, a pad and a queue, and its text. The bytes are those of SP 800-38A, F.2.1, of GCM's
-// second test case, and of python's `hmac`.
+// A script that uses a plain transform, a pad and a queue, and its text. The bytes are those of SP 800-38A, F.2.1, of
+// GCM's second test case, and of python's `hmac`.
 pub const MIXED_SCRIPT: &str = "\
 alloc c cbc(aes)
 key c 2b7e151628aed2a6abf7158809cf4f3c
@@ -253,8 +253,8 @@ pub fn expect<R: Abort + Threads + Wait + Sync>(
     }
 }
 
-/// A row of a table: its script, the status of the script's run, and its text. The row's first line says what it shows, and the status
-/// stands between the two, behind an equals sign.
+/// A row of a table: its script, the status of the script's run, and its text. The row's first line says what it shows,
+/// and the status stands between the two, behind an equals sign.
 #[derive(Clone, Copy)]
 pub struct Row {
     pub script: &'static str,

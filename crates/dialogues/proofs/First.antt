@@ -5,13 +5,13 @@ use Rattle.alg_registry.specs.declared.entry.RegEntry.{RegEntry}
 use Rattle.alg_registry.specs.declared.entry.RegEntry.TheVariants as entry
 use Rattle.reply_text.specs.declared.answers.Answer.{Answer}
 use Rattle.script_text.specs.declared.commands.Line.{Line}
-use Rattle.templates.specs.Looking.{Found, found_in}
+use Rattle.templates.specs.LookResults.{Found, found_in}
 use Rattle.dialogues.specs.BoardCalls.{BoardCall}
 use Rattle.dialogues.specs.Dialogues.{Dialogue, Ends, Says, Asks, Posts, followed}
 use Rattle.dialogues.specs.First.{AreFirstCalls, MayBe, MayAllBe, BeginsBy, AreFurther}
 use Rattle.dialogues.specs.FirstCalls.{LooksUp, AreLooks}
 use Rattle.dialogues.specs.InTurn.{AsksNothing, AreCalls}
-use Rattle.dialogues.specs.Leading.{Leads}
+use Rattle.dialogues.specs.Continuations.{Leads}
 use Rattle.dialogues.specs.Lines.{lines_dialogue}
 use Rattle.dialogues.specs.Questions.{RegQuestion, Enlist, Look, Unlist, Get, Put, Count, ListAll, RegAnswer, reg_call, reg_answer}
 use Rattle.dialogues.specs.Questions.{BoardQuestion, Create, Submit, Enqueue, Hold, Go, Poll, Drain, Close, Share, Mask, Shut, BoardAnswer, board_call, board_answer}

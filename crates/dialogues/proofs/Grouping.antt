@@ -6,7 +6,7 @@ use Rattle.std.proofs.lemmas.Bool.Decides.{nat_tests}
 use Rattle.std.proofs.lemmas.List.Concat.{flat_map-append}
 use Rattle.alg_registry.specs.declared.entry.RegEntry.{RegEntry}
 use Rattle.alg_registry.specs.declared.entry.RegEntry.TheVariants as entry
-use Rattle.templates.specs.Looking.{is_asked}
+use Rattle.templates.specs.LookResults.{is_asked}
 use Rattle.dialogues.specs.RegistryCalls.{RegCall, reg_call_of, reg_calls, reg_calls_from, prepend, AllSettled}
 use Rattle.dialogues.specs.InTurn.{IsMade, AsksNothing, AreInTurn, AreMade, is_look, is_group, AreGroups, AreInTurnBy, AreCalls}
 use Rattle.dialogues.proofs.RegistryGrowing.{reg_calls_from-append, none-asked}

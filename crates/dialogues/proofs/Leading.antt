@@ -9,8 +9,8 @@ use Rattle.transforms.specs.declared.ask.Ask.{Ask}
 use Rattle.dialogues.specs.RegistryCalls.{RegCall, reg_calls}
 use Rattle.dialogues.specs.BoardCalls.{BoardCall, board_calls}
 use Rattle.dialogues.specs.Dialogues.{Dialogue, followed}
-use Rattle.dialogues.specs.Piping.{end}
-use Rattle.dialogues.specs.Leading.{Leads}
+use Rattle.dialogues.specs.PipelineCommands.{end}
+use Rattle.dialogues.specs.Continuations.{Leads}
 use Rattle.dialogues.specs.Lines.{line_dialogue, lines_dialogue, script}
 use Rattle.dialogues.specs.Texts.{turn_in, IsText}
 use Rattle.dialogues.specs.Transcripts.{Transcript, ended, joined, transcript_of, text_in, IsTranscript}

@@ -12,8 +12,8 @@ use Rattle.alg_registry.specs.Rows.{registered}
 use Rattle.alg_registry.specs.Legal.{ended_as}
 use Rattle.alg_registry.specs.Made.{outcome_of}
 use Rattle.alg_registry.proofs.Histories.{ended_more, origin_more}
-use Rattle.templates.specs.Looking.{Found, found_in, found_as, entry_found}
-use Rattle.templates.specs.Looking.{is_asked}
+use Rattle.templates.specs.LookResults.{Found, found_in, found_as, entry_found}
+use Rattle.templates.specs.LookResults.{is_asked}
 use Rattle.dialogues.specs.RegistryCalls.{RegCall, Looks, reg_calls, reg_calls_from, reg_call_of, prepend, AllSettled}
 
 -- so what a look came to stays

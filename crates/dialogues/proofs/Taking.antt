@@ -4,7 +4,7 @@ use Rattle.std.specs.Prelude.{filter, if◌then◌else◌}
 use Rattle.std.proofs.lemmas.List.Elements.{filter-append}
 use Rattle.alg_registry.specs.declared.entry.RegEntry.{RegEntry}
 use Rattle.alg_registry.specs.declared.entry.RegEntry.TheVariants.{Look}
-use Rattle.templates.specs.Looking.{LooksFor, Found, found_in, is_asked}
+use Rattle.templates.specs.LookResults.{LooksFor, Found, found_in, is_asked}
 use Rattle.dialogues.specs.RegistryCalls.{RegCall, Looks, reg_call_of, reg_calls, reg_calls_from, prepend, is_settled, AllSettled}
 use Rattle.dialogues.specs.InTurn.{IsMade, AsksNothing, AreInTurn, AreMade, AreCalls}
 use Rattle.dialogues.proofs.RegistryGrowing.{reg_calls-append, reg_calls_from-append, none-asked}

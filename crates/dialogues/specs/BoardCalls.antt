@@ -76,7 +76,8 @@ pub data BoardCall : Type 0 where
   Masks : (pipe : ℕ) → (mask : ℕ) → BoardCall
   Shuts : BoardCall
 
--- The call that an entry is, where it is one; `before` stands before the entry. To take jobs and to finish them is work.
+-- The call that an entry is, where it is one; `before` stands before the entry. To take jobs and to finish them is
+-- work.
 abbrev pub board_call_of : ℕ → List (BoardEntry Ask) → BoardEntry Ask → Option BoardCall
 board_call_of caller before (event.Born by pipe shape) = if_own caller by (Creates pipe shape)
 board_call_of caller before (event.Submit by pipe number ask) = if_own caller by (Submits pipe number (asked_by (arc_value ask)))

@@ -1,4 +1,5 @@
--- The line `bulk T SIZE SEED`, which asks nothing: CTR of a long text that is drawn from a seed, and the digest of what it gives.
+-- The line `bulk T SIZE SEED`, which asks nothing: CTR of a long text that is drawn from a seed, and the digest of what
+-- it gives.
 use Rattle.std.specs.Prelude.{ℕ, ◌^◌, Bool, true, false, ◌&&◌, nat_le, if◌then◌else◌, List, Option, Some, None}
 use Rattle.sha2.specs.Sha256.{sha256}
 use Rattle.kc_base.specs.declared.error_numbers.Errno.TheVariants.{EINVAL, ENOKEY}

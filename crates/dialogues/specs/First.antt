@@ -1,7 +1,7 @@
 -- The first calls of a dialogue: what its script has called where it broke off.
 use Rattle.std.specs.Prelude.{ℕ, ◌≡◌, List, [], ◌∷◌, ◌++◌, Some, None}
 use Rattle.alg_registry.specs.declared.entry.RegEntry.{RegEntry}
-use Rattle.templates.specs.Looking.{Found}
+use Rattle.templates.specs.LookResults.{Found}
 use Rattle.dialogues.specs.BoardCalls.{BoardCall}
 use Rattle.dialogues.specs.Dialogues.{Dialogue}
 use Rattle.dialogues.specs.RegistryCalls.{RegCall, Looks, reg_calls}

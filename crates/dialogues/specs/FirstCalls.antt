@@ -3,12 +3,12 @@ use Rattle.std.specs.Prelude.{ℕ, ◌≡◌, List, [], ◌∷◌, ◌++◌, Opt
 use Rattle.alg_registry.specs.declared.entry.RegEntry.{RegEntry}
 use Rattle.reply_text.specs.declared.answers.Answer.{Answer}
 use Rattle.script_text.specs.declared.commands.Line.{Line}
-use Rattle.templates.specs.Looking.{Found}
+use Rattle.templates.specs.LookResults.{Found}
 use Rattle.dialogues.specs.BoardCalls.{BoardCall}
 use Rattle.dialogues.specs.Dialogues.{Dialogue, Says, Asks, Posts, followed}
 use Rattle.dialogues.specs.First.{BeginsBy, AreFurther}
 use Rattle.dialogues.specs.InTurn.{AsksNothing, AreCalls}
-use Rattle.dialogues.specs.Leading.{Leads}
+use Rattle.dialogues.specs.Continuations.{Leads}
 use Rattle.dialogues.specs.Lines.{lines_dialogue}
 use Rattle.dialogues.specs.Questions.{RegQuestion, RegAnswer, BoardQuestion, BoardAnswer, Look, reg_call, board_call}
 use Rattle.dialogues.specs.RegistryCalls.{RegCall, Looks, reg_calls, AllSettled}

@@ -3,7 +3,7 @@ use Rattle.std.specs.Prelude.{ℕ, ◌≤◌, ◌≡◌, true, false, List, [], 
 use Rattle.std.specs.List.{list_all}
 use Rattle.alg_registry.specs.declared.entry.RegEntry.{RegEntry}
 use Rattle.board.specs.declared.entry.BoardEntry.{BoardEntry}
-use Rattle.templates.specs.Looking.{Found, found_in, LooksFor, is_asked}
+use Rattle.templates.specs.LookResults.{Found, found_in, LooksFor, is_asked}
 use Rattle.alg_registry.specs.declared.entry.Looked.{Looked}
 use Rattle.alg_registry.specs.declared.spec.Spec.{Spec}
 use Rattle.alg_registry.specs.Rows.{registered}
@@ -21,7 +21,8 @@ RegisteredStays = (h more : List RegEntry) (id : ℕ) (spec : Spec) → slice_ge
 abbrev pub FoundStays : Type 0
 FoundStays = (h more : List RegEntry) (answer : Looked) (x : Found) → found_in h answer ≡ Some x → found_in (h ++ more) answer ≡ Some x
 
--- A history that goes on has the caller's calls of before, where each of these has come to something, and those of what was added.
+-- A history that goes on has the caller's calls of before, where each of these has come to something, and those of what
+-- was added.
 abbrev pub RegistryCallsGoOn : Type 0
 RegistryCallsGoOn =
     (caller : ℕ) (h more : List RegEntry) → AllSettled (reg_calls caller h)

@@ -1,12 +1,13 @@
--- How a caller asks its registry: one call after the other, each when the one before has come to something; or with several
--- looks at once.
+-- How a caller asks its registry: one call after the other, each when the one before has come to something; or with
+-- several looks at once.
 use Rattle.std.specs.Prelude.{ℕ, ◌≡◌, Bool, true, false, ◌&&◌, nat_le, List, [], ◌∷◌, ◌++◌, length, filter, Some}
 use Rattle.std.specs.List.{list_all, flat_map}
 use Rattle.alg_registry.specs.declared.entry.RegEntry.{RegEntry}
-use Rattle.templates.specs.Looking.{is_asked}
+use Rattle.templates.specs.LookResults.{is_asked}
 use Rattle.dialogues.specs.RegistryCalls.{RegCall, Looks, reg_call_of, reg_calls, reg_calls_from, is_settled, AllSettled}
 
--- The history went on by this call of the caller, which has come to something; before and after it the caller asked nothing.
+-- The history went on by this call of the caller, which has come to something; before and after it the caller asked
+-- nothing.
 pub record IsMade (caller : ℕ) (call : RegCall) (r r' : List RegEntry) : Type 0 where
   pub before : List RegEntry
   pub entry : RegEntry
@@ -28,7 +29,8 @@ AreInTurn caller (call ∷ calls) r r' = (next : List RegEntry) × IsMade caller
 
 -- ---- several looks at once
 
--- The history went on by these calls of the caller, one after the other, which have all come to something; it asked nothing else.
+-- The history went on by these calls of the caller, one after the other, which have all come to something; it asked
+-- nothing else.
 pub record AreMade (caller : ℕ) (calls : List RegCall) (r r' : List RegEntry) : Type 0 where
   pub more : List RegEntry
   pub history : r' ≡ r ++ more
@@ -56,8 +58,8 @@ AreInTurnBy width caller calls r r' = (groups : List (List RegCall)) × (flat_ma
 
 -- ---- further calls
 
--- What calls in turn are to the history: it went on, these are the caller's further calls, and all that it asked has come to
--- something.
+-- What calls in turn are to the history: it went on, these are the caller's further calls, and all that it asked has
+-- come to something.
 pub record AreCalls (caller : ℕ) (calls : List RegCall) (r r' : List RegEntry) : Type 0 where
   pub more : List RegEntry
   pub goes_on : r' ≡ r ++ more

@@ -6,13 +6,13 @@ use Rattle.script_text.specs.declared.commands.Line.{Line}
 use Rattle.script_text.specs.declared.commands.Line.TheVariants as line
 use Rattle.transforms.specs.declared.request.Dir.TheVariants as dir
 use Rattle.reply_text.specs.declared.answers.Answer.TheVariants as said
-use Rattle.dialogues.specs.Allocating.{alloc, free}
+use Rattle.dialogues.specs.AllocAndFree.{alloc, free}
 use Rattle.dialogues.specs.Bulk.{bulk}
 use Rattle.dialogues.specs.Dialogues.{Dialogue, Ends, followed, says}
-use Rattle.dialogues.specs.Piping.{mask, hold, go, poll, drain, end, end_beside}
-use Rattle.dialogues.specs.Probing.{probe}
-use Rattle.dialogues.specs.Registering.{register, unregister, refs, listed}
-use Rattle.dialogues.specs.Requesting.{aes, set_key, set_tag_size, request, request_of}
+use Rattle.dialogues.specs.PipelineCommands.{mask, hold, go, poll, drain, end, end_beside}
+use Rattle.dialogues.specs.Probe.{probe}
+use Rattle.dialogues.specs.RegistryCommands.{register, unregister, refs, listed}
+use Rattle.dialogues.specs.RequestCommands.{aes, set_key, set_tag_size, request, request_of}
 use Rattle.dialogues.specs.ScriptState.{ScriptState}
 
 -- The first argument of each is how many workers stand beside the script.

@@ -6,7 +6,7 @@ use Rattle.alg_registry.specs.declared.entry.RefAnswer.{RefAnswer}
 use Rattle.alg_registry.specs.declared.listing.ListRow.{ListRow}
 use Rattle.board.specs.declared.entry.Entered.{Entered}
 use Rattle.board.specs.declared.entry.Shape.{Shape}
-use Rattle.templates.specs.Looking.{Found}
+use Rattle.templates.specs.LookResults.{Found}
 use Rattle.dialogues.specs.RegistryCalls.{RegCall, Enlists, Looks, Unlists, Gets, Puts, Counts, Lists}
 use Rattle.dialogues.specs.BoardCalls.{Asked, BoardCall, Creates, Submits, Enqueues, Holds, Goes, Collects, Closes, Shares, Masks, Shuts, Notice, Collected}
 

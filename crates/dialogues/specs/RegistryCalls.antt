@@ -8,10 +8,10 @@ use Rattle.alg_registry.specs.declared.entry.RegEntry.TheVariants as entry
 use Rattle.alg_registry.specs.declared.listing.ListRow.{ListRow}
 use Rattle.alg_registry.specs.Rows.{rows_of}
 use Rattle.alg_registry.specs.Calls.{refs_answer, listing}
-use Rattle.templates.specs.Looking.{Found, found_in}
+use Rattle.templates.specs.LookResults.{Found, found_in}
 
--- A call of a script, and what came of it. A look has come to nothing while its larval hasn't ended, or where it ended for
--- want of memory.
+-- A call of a script, and what came of it. A look has come to nothing while its larval hasn't ended, or where it ended
+-- for want of memory.
 pub data RegCall : Type 0 where
   Enlists : (spec : Spec) → (answer : Enlisted) → RegCall
   Looks : (text : List ℕ) → (found : Option Found) → RegCall
@@ -24,8 +24,8 @@ pub data RegCall : Type 0 where
 abbrev pub if_own : {Call : Type 0} → ℕ → ℕ → Call → Option Call
 if_own caller by call = if by == caller then Some call else None
 
--- The call of the script that an entry of the history h is, where it is one; `before` stands before the entry. Looks for
--- building, claims, ends and waits are work.
+-- The call of the script that an entry of the history h is, where it is one; `before` stands before the entry. Looks
+-- for building, claims, ends and waits are work.
 abbrev pub reg_call_of : List RegEntry → ℕ → List RegEntry → RegEntry → Option RegCall
 reg_call_of h caller before (entry.Enlist by spec answer) = if_own caller by (Enlists spec answer)
 reg_call_of h caller before (entry.Look by text plain answer) = if plain then None else if_own caller by (Looks text (found_in h answer))

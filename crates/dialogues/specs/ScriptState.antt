@@ -4,9 +4,9 @@ use Rattle.std.specs.Str.{bytes_eq}
 use Rattle.reply_text.specs.declared.origin.Origin.{Origin}
 use Rattle.templates.specs.declared.driver_plans.Plan.{Plan}
 
--- A pipeline: its number on the board; how many requests may wait in a queue before it is full (none for a pad); whether it is
--- held; whether no worker may take from it, which is so of a pad whose mask is empty; which requests of the script it accepted, by
--- their lines; and how many of their completions it has handed out.
+-- A pipeline: its number on the board; how many requests may wait in a queue before it is full (none for a pad);
+-- whether it is held; whether no worker may take from it, which is so of a pad whose mask is empty; which requests of
+-- the script it accepted, by their lines; and how many of their completions it has handed out.
 pub record PipelineState : Type 0 where
   pub number : ℕ
   pub bound : Option ℕ
@@ -15,8 +15,8 @@ pub record PipelineState : Type 0 where
   pub lines : List Origin
   pub delivered : ℕ
 
--- A live transform: its label, the entry on which it stands, what it computes, the key that was set last, and its tag size.
--- Under `pcrypt` or `cryptd` it has a pipeline, which takes its requests; otherwise they are done at their line.
+-- A live transform: its label, the entry on which it stands, what it computes, the key that was set last, and its tag
+-- size. Under `pcrypt` or `cryptd` it has a pipeline, which takes its requests; otherwise they are done at their line.
 pub record Live : Type 0 where
   pub label : List ℕ
   pub id : ℕ
@@ -25,8 +25,8 @@ pub record Live : Type 0 where
   pub tag_size : ℕ
   pub pipe : Option PipelineState
 
--- As which client the script runs; the live transforms that it shares with others, which none of them changes; its own, in order
--- of allocation; and of all its requests that pipelines accepted, how many and of how many bytes.
+-- As which client the script runs; the live transforms that it shares with others, which none of them changes; its own,
+-- in order of allocation; and of all its requests that pipelines accepted, how many and of how many bytes.
 pub record ScriptState : Type 0 where
   pub client : ℕ
   pub shared : List Live

@@ -8,7 +8,7 @@ use Rattle.dialogues.specs.BoardCalls.{board_calls}
 use Rattle.dialogues.specs.Dialogues.{Dialogue, Ends}
 use Rattle.dialogues.specs.Lines.{script, script_beside, lines_dialogue}
 use Rattle.dialogues.specs.RegistryCalls.{reg_calls}
-use Rattle.dialogues.specs.Sharing.{closing}
+use Rattle.dialogues.specs.SharedTransforms.{closing}
 use Rattle.dialogues.specs.Transcripts.{Transcript, transcript_of, text_in, IsTranscript}
 use Rattle.dialogues.specs.ScriptState.{ScriptState, Live, start, start_beside}
 
@@ -37,8 +37,8 @@ IsText workers script_state caller lines r b text = IsTextOf (script workers scr
 abbrev pub IsClientText : ℕ → ℕ → List Live → List Line → List RegEntry → List (BoardEntry Ask) → List ℕ → Type 0
 IsClientText workers client shared lines r b text = IsTextOf (script_beside workers (start_beside client shared) lines) (16 + client) r b text
 
--- The first script came to this state by its lines; its pipelines were shared then. Its lines print the one text, and the end of its
--- input the other.
+-- The first script came to this state by its lines; its pipelines were shared then. Its lines print the one text, and
+-- the end of its input the other.
 pub record AreFirstTexts (workers : ℕ) (lines : List Line) (script_state : ScriptState) (r : List RegEntry) (b : List (BoardEntry Ask)) (opening ending : List ℕ) : Type 0 where
   pub first : Transcript
   pub last : Transcript

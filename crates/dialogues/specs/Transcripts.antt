@@ -1,4 +1,5 @@
--- A turn: what a dialogue asks of the registry and of the board, what it answers, and what the script has made after it.
+-- A turn: what a dialogue asks of the registry and of the board, what it answers, and what the script has made after
+-- it.
 use Rattle.std.specs.Prelude.{ℕ, ◌≡◌, List, [], ◌∷◌, ◌++◌, Option, Some, None}
 use Rattle.std.specs.List.{flat_map}
 use Rattle.reply_text.specs.declared.answers.Answer.{Answer}

@@ -9,7 +9,7 @@ ghost use Rattle.dialogues.specs.BoardCalls.{BoardCall};
 ghost use Rattle.dialogues.specs.Dialogues.{Dialogue, followed};
 ghost use Rattle.dialogues.specs.FirstCalls.{BeginsByNone, BeginsByTurn, BeginsSaying, BeginsAsking, BeginsPosting, BeginsLooking, BeginsLookingAll, BeginsInFirst, BeginsInLater, BeginsInLines, NoneFurther, CallsThenFurther, FurtherStay};
 ghost use Rattle.dialogues.specs.GoingOn.{RegisteredStays, FoundStays, RegistryCallsGoOn, RegistryCallsJoin, RegistryUnasked, BoardCallsGoOn, BoardCallsJoin, BoardUncalled, NoCall, OneCall, OneLook, NothingThenCalls, CallsThenCalls, CallsInTurnAre, InTurnByAny, InTurnByOne, InTurnByMore, LooksAtOnce, NothingThenCallsBy, CallsThenCallsBy, CallsByAre};
-ghost use Rattle.dialogues.specs.Leading.{LeadsNowhere, LeadsOn, LeadsToEnd};
+ghost use Rattle.dialogues.specs.Continuations.{LeadsNowhere, LeadsOn, LeadsToEnd};
 ghost use Rattle.dialogues.specs.References.{ReferencesFollow};
 ghost use Rattle.dialogues.specs.RegistryCalls.{RegCall};
 ghost use Rattle.dialogues.specs.Texts.{IsText};

@@ -131,8 +131,8 @@ impl<C: BlockCipher + Drop, H: GhashKey + Drop> Gcm<C, H> {
         tag
     }
 
-    /// The full tag, from GHASH of the associated bytes and of the ciphertext, each padded to whole blocks, and from the
-    /// lengths of both in bytes (7.1, steps 4 to 6).
+    /// The full tag, from GHASH of the associated bytes and of the ciphertext, each padded to whole blocks, and from
+    /// the lengths of both in bytes (7.1, steps 4 to 6).
     pub fn seal_hash(
         &self,
         iv: &[u8; 12],

@@ -9,7 +9,8 @@ use crate::text::{Text, bytes_at, write_at};
 use aes_block::{BlockCipher, xor_block};
 use cbc_mode::Cbc;
 
-/// Fewer chains than these are sealed sooner one by one: eight blocks side by side take as long as so many by themselves.
+/// Fewer chains than these are sealed sooner one by one: eight blocks side by side take as long as so many by
+/// themselves.
 const LEAST_CHAINS: usize = 4;
 
 /// Block `i` of the text.
@@ -97,8 +98,8 @@ fn put_blocks<T: Text>(texts: &mut [T], chains: &[[u8; 16]; 8], lengths: &[usize
     }
 }
 
-/// Seals the first `steps` blocks of each text, or all where there are fewer. The chains behind them, which mean nothing where all
-/// are sealed.
+/// Seals the first `steps` blocks of each text, or all where there are fewer. The chains behind them, which mean
+/// nothing where all are sealed.
 fn seal_steps<C: BlockCipher, T: Text>(
     cipher: &C,
     ivs: &[[u8; 16]; 8],
@@ -166,8 +167,9 @@ fn seal_rests<C: BlockCipher, T: Text>(
     }
 }
 
-/// Seals the front of each of at most eight texts in place, under an IV of its own: the first `lengths[n]` bytes of text `n`, which are
-/// whole blocks. What stands behind them stays as it is. Chains that go on alone are sealed one by one. No memory is taken.
+/// Seals the front of each of at most eight texts in place, under an IV of its own: the first `lengths[n]` bytes of
+/// text `n`, which are whole blocks. What stands behind them stays as it is. Chains that go on alone are sealed one by
+/// one. No memory is taken.
 pub fn seal_cbc_in_step<C: BlockCipher + Drop, T: Text>(
     mode: &Cbc<C>,
     ivs: &[[u8; 16]; 8],

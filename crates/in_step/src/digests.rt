@@ -224,8 +224,8 @@ fn digests_behind(
     digests
 }
 
-/// The digests of eight messages: of what the hasher was given, and behind it the lane's two pieces. It was given whole blocks. The
-/// pieces of a lane have fewer than 2^63 bytes together. No memory is taken.
+/// The digests of eight messages: of what the hasher was given, and behind it the lane's two pieces. It was given whole
+/// blocks. The pieces of a lane have fewer than 2^63 bytes together. No memory is taken.
 pub fn digests_in_step(hasher: &Sha256, firsts: &[&[u8]; 8], seconds: &[&[u8]; 8]) -> [[u8; 32]; 8]
     requires short { AreShort firsts.now seconds.now }
     ensures { (m : List ℕ) (n : ℕ) → HasAbsorbed hasher.now m → length m % 64 ≡ 0 → n < 8

@@ -31,8 +31,8 @@ fn no_pieces<'a>() -> [&'a [u8]; 8]
     [&[], &[], &[], &[], &[], &[], &[], &[]]
 }
 
-/// The whole MACs, of 32 bytes, of eight messages: each is of the lane's two pieces as one message. These have fewer than 2^63 bytes
-/// together. No memory is taken.
+/// The whole MACs, of 32 bytes, of eight messages: each is of the lane's two pieces as one message. These have fewer
+/// than 2^63 bytes together. No memory is taken.
 pub fn macs_in_step(mac: &Mac, firsts: &[&[u8]; 8], seconds: &[&[u8]; 8]) -> [[u8; 32]; 8]
     requires { AreShort firsts.now seconds.now }
     ensures { (n : ℕ) → n < 8 → slice_index_or result n [] ≡ hmac_under mac.now (piece firsts.now n ++ piece seconds.now n) }

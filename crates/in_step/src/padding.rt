@@ -36,7 +36,8 @@ fn add_piece(block: &mut [u8], used: usize, piece: &[u8], skip: usize) -> usize
     used + count
 }
 
-/// Writes the block that begins at byte `at` of zeros in the place of a message of `len` bytes and the bit 1 behind them.
+/// Writes the block that begins at byte `at` of zeros in the place of a message of `len` bytes and the bit 1 behind
+/// them.
 fn put_mark(block: &mut [u8], len: usize, at: usize)
     requires { length block.old ≡ 64 }
     ensures long { length block.new ≡ 64 }
@@ -49,7 +50,8 @@ fn put_mark(block: &mut [u8], len: usize, at: usize)
     }
 }
 
-/// Writes the block that begins at byte `at` of the padding, with zeros in the place of the message, which has `len` bytes.
+/// Writes the block that begins at byte `at` of the padding, with zeros in the place of the message, which has `len`
+/// bytes.
 fn put_padding(block: &mut [u8], taken: u64, len: usize, at: usize)
     requires block { length block.old ≡ 64 }
     requires short { len < 2 ^ 63 }

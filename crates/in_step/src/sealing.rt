@@ -39,9 +39,9 @@ fn fronts<'a, T: Text>(texts: &'a [T], lengths: &[usize; 8]) -> [&'a [u8]; 8]
     ]
 }
 
-/// Seals the front of each of at most eight texts in place, under an IV of its own: the first `lengths[n]` bytes of text `n`, which are
-/// whole blocks. What stands behind them stays as it is. The whole MACs of the associated bytes and behind them the ciphertext. Those have
-/// fewer than 2^63 bytes together. No memory is taken.
+/// Seals the front of each of at most eight texts in place, under an IV of its own: the first `lengths[n]` bytes of
+/// text `n`, which are whole blocks. What stands behind them stays as it is. The whole MACs of the associated bytes and
+/// behind them the ciphertext. Those have fewer than 2^63 bytes together. No memory is taken.
 pub fn seal_authenc_in_step<C: BlockCipher + Drop, T: Text>(
     mac: &Mac,
     mode: &Cbc<C>,

@@ -11,14 +11,15 @@ const HALF: u64 = 1 << 32;
 /// What one more job adds to both halves.
 const ONE_JOB: u64 = HALF + 1;
 
-/// How many jobs came, and how many of these no worker has noticed. Some may have been taken all the same. Both are one word: so who
-/// read it earlier finds out whether a job came since, even where as many are unnoticed as then.
+/// How many jobs came, and how many of these no worker has noticed. Some may have been taken all the same. Both are one
+/// word: so who read it earlier finds out whether a job came since, even where as many are unnoticed as then.
 #[derive(Drop)]
 pub(crate) struct Counted {
     word: CachePadded<AtomicU64>,
 }
 
-/// The word as it was read before a turn. After the turn it serves for one exchange, which changes the word only where it is still this.
+/// The word as it was read before a turn. After the turn it serves for one exchange, which changes the word only where
+/// it is still this.
 #[derive(Drop)]
 pub struct Seen {
     word: u64,
@@ -73,7 +74,8 @@ impl Counted {
         }
     }
 
-    /// `Notice_taken`: one of those that were seen is unnoticed no more. False where there was none, or the word has changed.
+    /// `Notice_taken`: one of those that were seen is unnoticed no more. False where there was none, or the word has
+    /// changed.
     pub(crate) fn notice_seen(&self, seen: Seen) -> bool {
         let unnoticed = seen.unnoticed();
         unnoticed > 0 && self.lower(seen.word, 1)

@@ -40,8 +40,8 @@ impl MaskedPad {
     }
 }
 
-/// The open pads whose mask leaves some of 16 workers out. It is changed and asked within turns at the board alone, so by one caller
-/// at a time.
+/// The open pads whose mask leaves some of 16 workers out. It is changed and asked within turns at the board alone, so
+/// by one caller at a time.
 #[derive(Drop)]
 pub(crate) struct MaskedPads {
     pads: [MaskedPad; PADS],

@@ -8,15 +8,15 @@ use std::sync::Wait;
 use std::sync::atomic::{AtomicBool, AtomicU64, Ordering};
 use std::time::Duration;
 
-/// How often a worker that stays awake looks for a job that came: some 50 microseconds. From the eighth time on it leaves the processor
-/// to others in between.
+/// How often a worker that stays awake looks for a job that came: some 50 microseconds. From the eighth time on it
+/// leaves the processor to others in between.
 const SPINS: u32 = 100;
 
 /// The callers 1 to so many are workers.
 const WORKERS: u32 = 16;
 
-/// A worker that gave up staying awake. It can only announce a wait (`prepare_wait_for_job`): a value that is let go is refused. So whoever jobs
-/// were left to while it stayed awake looks once more before it sleeps.
+/// A worker that gave up staying awake. It can only announce a wait (`prepare_wait_for_job`): a value that is let go is
+/// refused. So whoever jobs were left to while it stayed awake looks once more before it sleeps.
 pub struct Tired {
     awake: bool,
 }
@@ -50,7 +50,8 @@ impl<'a> WaitToken<'a> {
     }
 }
 
-/// The wake-ups of a board's workers. What each job changes has cache lines of its own, since the rest is read at each turn.
+/// The wake-ups of a board's workers. What each job changes has cache lines of its own, since the rest is read at each
+/// turn.
 #[derive(Drop)]
 pub struct JobWakeups {
     /// Notified where a job may be taken.
@@ -61,8 +62,8 @@ pub struct JobWakeups {
     awake: CachePadded<AtomicU64>,
     /// Whether the board may be shut: a hint, for those who look before they take a turn.
     over: AtomicBool,
-    /// Whether each job wakes all: some pad was made with fewer lists than there are workers, or more pads were masked at once than
-    /// are told apart. Then one worker that is woken may not be one that may take the job.
+    /// Whether each job wakes all: some pad was made with fewer lists than there are workers, or more pads were masked
+    /// at once than are told apart. Then one worker that is woken may not be one that may take the job.
     wakes_all: AtomicBool,
     masked: MaskedPads,
     /// How often all were called for something that isn't counted: who stays awake looks then too.
@@ -71,8 +72,8 @@ pub struct JobWakeups {
     fewest_lists: AtomicU64,
     /// The highest number of a worker that found nothing.
     highest_worker: AtomicU64,
-    /// Whether some queue or chain was made: then a job may be ready that was never counted, as a queue's next is once the one
-    /// before it is finished.
+    /// Whether some queue or chain was made: then a job may be ready that was never counted, as a queue's next is once
+    /// the one before it is finished.
     queues: AtomicBool,
     /// Nobody changes it or wakes who sleeps on it.
     pause: AtomicU64,
@@ -95,8 +96,8 @@ impl JobWakeups {
         }
     }
 
-    /// A job came, or something else for which a worker has to look. It wakes a worker that sleeps, where fewer stay awake than are
-    /// unnoticed. (`Count` or `Call`, then `Leave` or `Notify`.)
+    /// A job came, or something else for which a worker has to look. It wakes a worker that sleeps, where fewer stay
+    /// awake than are unnoticed. (`Count` or `Call`, then `Leave` or `Notify`.)
     pub fn notify_job(&self) {
         let before = self.counted.count();
         if self.wakes_all.load(Ordering::SeqCst) {
@@ -106,8 +107,8 @@ impl JobWakeups {
         }
     }
 
-    /// A job of a pad came, which was masked or not as it was put there. Who stays awake may not be one that may take a masked pad's
-    /// job: so that one isn't counted, and all look.
+    /// A job of a pad came, which was masked or not as it was put there. Who stays awake may not be one that may take a
+    /// masked pad's job: so that one isn't counted, and all look.
     pub fn notify_job_of(&self, masked: bool) {
         if masked {
             self.notify_workers();
@@ -122,8 +123,8 @@ impl JobWakeups {
         self.jobs.notify_all();
     }
 
-    /// A caller that looked for a job took one, of a masked pad or not. A masked pad's was never counted: so a worker that looked since
-    /// it noticed another, or was woken for it, calls one in its place.
+    /// A caller that looked for a job took one, of a masked pad or not. A masked pad's was never counted: so a worker
+    /// that looked since it noticed another, or was woken for it, calls one in its place.
     pub fn notify_taken(&self, caller: u32, masked: bool) {
         if masked && is_worker(caller) {
             self.notify_job();
@@ -132,10 +133,11 @@ impl JobWakeups {
         }
     }
 
-    /// A job was taken, or finished with no look for the next. Where there are queues another may be ready for which no call
-    /// notifies, and it wakes a worker that sleeps, unless some stay awake: each of these looks at the board by a turn before it
-    /// sleeps, and comes here again where it takes a job. So two that became ready are not left to one worker for longer than it
-    /// stays awake. It counts nothing, since more often than not there is none. (`Leave_next` or `Notify_next`.)
+    /// A job was taken, or finished with no look for the next. Where there are queues another may be ready for which no
+    /// call notifies, and it wakes a worker that sleeps, unless some stay awake: each of these looks at the board by a
+    /// turn before it sleeps, and comes here again where it takes a job. So two that became ready are not left to one
+    /// worker for longer than it stays awake. It counts nothing, since more often than not there is none. (`Leave_next`
+    /// or `Notify_next`.)
     pub fn notify_next(&self) {
         if self.queues.load(Ordering::SeqCst) && self.awake.load(Ordering::SeqCst) == 0 {
             self.jobs.notify_one();
@@ -147,8 +149,8 @@ impl JobWakeups {
         self.queues.store(true, Ordering::SeqCst);
     }
 
-    /// A pad or a chain is made, from which the workers 1 to `lists` may take. Beside a worker of a higher number each job wakes all
-    /// from then on.
+    /// A pad or a chain is made, from which the workers 1 to `lists` may take. Beside a worker of a higher number each
+    /// job wakes all from then on.
     pub fn note_lists(&self, lists: u32) {
         self.fewest_lists
             .fetch_min(u64::from(lists), Ordering::SeqCst);
@@ -173,8 +175,9 @@ impl JobWakeups {
             .is_masked(pad, self.highest_worker.load(Ordering::SeqCst))
     }
 
-    /// A worker found nothing, and may sleep or stay awake soon. All look once where its number is the highest so far and a pad's mask
-    /// leaves it out, maybe alone: a job that came just before may be left to it. A pad that is masked later calls all itself.
+    /// A worker found nothing, and may sleep or stay awake soon. All look once where its number is the highest so far
+    /// and a pad's mask leaves it out, maybe alone: a job that came just before may be left to it. A pad that is masked
+    /// later calls all itself.
     fn note_worker(&self, worker: u64) {
         if self.highest_worker.load(Ordering::SeqCst) < worker {
             self.highest_worker.fetch_max(worker, Ordering::SeqCst);
@@ -185,8 +188,8 @@ impl JobWakeups {
         }
     }
 
-    /// Some worker may not take from some pad: those who sleep look at the board, and each job wakes all. Both words are changed before
-    /// they are compared, so of two that change one each the later finds it so.
+    /// Some worker may not take from some pad: those who sleep look at the board, and each job wakes all. Both words
+    /// are changed before they are compared, so of two that change one each the later finds it so.
     fn notify_if_few(&self) {
         let lists = self.fewest_lists.load(Ordering::SeqCst);
         let is_few = lists < self.highest_worker.load(Ordering::SeqCst);
@@ -201,10 +204,10 @@ impl JobWakeups {
         self.counted.seen()
     }
 
-    /// A worker found no job at a turn, so those that were unnoticed before it are taken. If one came meanwhile, nothing is forgotten.
-    /// Only a worker forgets (the callers 1 to 16): another finds none for itself, where some may be left to a worker that stays
-    /// awake. What is counted though it was taken does no harm, since the next worker that finds nothing forgets it. (`Forget` or
-    /// `Keep`.)
+    /// A worker found no job at a turn, so those that were unnoticed before it are taken. If one came meanwhile,
+    /// nothing is forgotten. Only a worker forgets (the callers 1 to 16): another finds none for itself, where some may
+    /// be left to a worker that stays awake. What is counted though it was taken does no harm, since the next worker
+    /// that finds nothing forgets it. (`Forget` or `Keep`.)
     pub fn forget(&self, caller: u32, seen: Seen) {
         if is_worker(caller) {
             self.note_worker(u64::from(caller));
@@ -212,8 +215,8 @@ impl JobWakeups {
         }
     }
 
-    /// A job was taken at the turn at which another was finished, of a masked pad or not: it is noticed, where it was counted and none
-    /// came since before that turn. (`Notice_taken` or `Run_on`.)
+    /// A job was taken at the turn at which another was finished, of a masked pad or not: it is noticed, where it was
+    /// counted and none came since before that turn. (`Notice_taken` or `Run_on`.)
     pub fn notice_taken(&self, seen: Seen, masked: bool) {
         if !masked {
             let _ = self.counted.notice_seen(seen);
@@ -233,7 +236,8 @@ impl JobWakeups {
         !is_notified_for_each || self.notice()
     }
 
-    /// Notices a job that comes within a while, unless the board may be shut or all are called first. (`Notice_while_awake`.)
+    /// Notices a job that comes within a while, unless the board may be shut or all are called first.
+    /// (`Notice_while_awake`.)
     fn notice_soon(&self) -> bool {
         let called = self.called.load(Ordering::SeqCst);
         let backoff = Backoff::new();
@@ -256,8 +260,9 @@ impl JobWakeups {
     }
 
     /// Stays awake for a while, unless each job wakes all. Further ones that came meanwhile may have been left to this
-    /// worker too, so it wakes another where more are unnoticed than others stay awake: who was still awake here looks later, since
-    /// each looks at the board after it is no longer counted. (`Spin`, then `Rouse` and `Read_unnoticed`, or `Give_up`.)
+    /// worker too, so it wakes another where more are unnoticed than others stay awake: who was still awake here looks
+    /// later, since each looks at the board after it is no longer counted. (`Spin`, then `Rouse` and `Read_unnoticed`,
+    /// or `Give_up`.)
     pub fn spin_for_job(&self) -> SpinResult {
         if self.wakes_all.load(Ordering::SeqCst) {
             return SpinResult::Tired(Tired { awake: false });

@@ -16,7 +16,8 @@ impl WorkerWakeup {
         WorkerWakeup { wakeups }
     }
 
-    /// Counts as a job that came: wakes a worker that sleeps, unless enough stay awake. (`Call`, then `Leave` or `Notify`.)
+    /// Counts as a job that came: wakes a worker that sleeps, unless enough stay awake. (`Call`, then `Leave` or
+    /// `Notify`.)
     pub fn call(&self) {
         self.wakeups.notify_job();
     }

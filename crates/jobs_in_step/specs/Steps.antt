@@ -59,7 +59,8 @@ abbrev pub takes_associated : StepKey → ℕ → Bool
 takes_associated (Cbc mode) n = n == 0
 takes_associated (Authenc mac mode) n = true
 
--- each lane's length is one of whole blocks within its text, and of fewer than 2^63 bytes with the associated bytes; a tag fits behind it
+-- each lane's length is one of whole blocks within its text, and of fewer than 2^63 bytes with the associated bytes; a
+-- tag fits behind it
 abbrev pub AreFronts : {A : Type 0} → (A → List ℕ) → List ℕ → List (Bor (List ℕ)) → ℕ → List A → Type 0
 AreFronts {A} bytes_of lengths aads tag_size texts =
     (n : ℕ) → n < 8

@@ -88,9 +88,10 @@ fn seal_tagged_fronts<T: Text>(
     put_tags_at(texts, lengths, &tags, tag_size);
 }
 
-/// Seals the front of each of at most eight texts in its place: the first `lengths[n]` bytes of text `n`, which are whole blocks. A tag of
-/// `tag_size` bytes is written behind them: none under CBC, at most 32 under authenc. What stands behind that stays as it is. A text and
-/// its associated bytes have fewer than 2^63 bytes together. No memory is taken.
+/// Seals the front of each of at most eight texts in its place: the first `lengths[n]` bytes of text `n`, which are
+/// whole blocks. A tag of `tag_size` bytes is written behind them: none under CBC, at most 32 under authenc. What
+/// stands behind that stays as it is. A text and its associated bytes have fewer than 2^63 bytes together. No memory is
+/// taken.
 pub fn seal_fronts<T: Text>(
     key: StepKey<'_>,
     ivs: &[[u8; 16]; 8],

@@ -64,8 +64,9 @@ fn run_in_step(
     answers_of(alloc, &asks, &mut texts)
 }
 
-/// Runs up to eight jobs, each to the value of its ask. Where all are sealings of whole blocks under `keyed`, whose plan is CBC or authenc
-/// over it, and the tags have at most 32 bytes, they run in step, else one after another. No memory is taken.
+/// Runs up to eight jobs, each to the value of its ask. Where all are sealings of whole blocks under `keyed`, whose
+/// plan is CBC or authenc over it, and the tags have at most 32 bytes, they run in step, else one after another. No
+/// memory is taken.
 pub fn run_together(alloc: Global, keyed: &Keyed, jobs: [Option<Job>; 8]) -> [Option<Finished>; 8]
     ensures { AreValues result jobs }
 {

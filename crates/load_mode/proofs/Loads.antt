@@ -9,17 +9,17 @@ use Rattle.board.specs.declared.entry.BoardEntry.{BoardEntry}
 use Rattle.board.specs.declared.entry.Shape.TheVariants.{Pad}
 use Rattle.board.specs.Entries.{entries_of, submissions, completes_from}
 use Rattle.templates.specs.Table.{table, template_named}
-use Rattle.templates.specs.Resolving.{weight}
+use Rattle.templates.specs.Resolution.{weight}
 use Rattle.transforms.specs.declared.ask.Ask.{Ask}
 use Rattle.script_text.specs.declared.commands.Line.{Line}
-use Rattle.dialogues.specs.Allocating.{lists_beside}
+use Rattle.dialogues.specs.AllocAndFree.{lists_beside}
 use Rattle.dialogues.specs.BoardCalls.{Asked, asked_by, Creates, board_calls}
 use Rattle.dialogues.specs.Dialogues.{Dialogue, Ends, Says, Asks, Posts, followed}
 use Rattle.dialogues.specs.Lines.{line_dialogue, lines_dialogue}
-use Rattle.dialogues.specs.Piping.{end}
+use Rattle.dialogues.specs.PipelineCommands.{end}
 use Rattle.dialogues.specs.ScriptState.{ScriptState, start}
 use Rattle.sequential_model.specs.Registry.{PlainRegistry, first_registry}
-use Rattle.settled_scripts.specs.Passing.{posted, PassesFollow, PostsFollow, TurnsArePlain}
+use Rattle.settled_scripts.specs.PlainRuns.{posted, PassesFollow, PostsFollow, TurnsArePlain}
 use Rattle.settled_scripts.specs.Settled.{Passed, pass, saying, if_timeless}
 use Rattle.load_mode.specs.Requests.{drawn_requests, load_requests, of_a, of_g, digest_of}
 use Rattle.load_mode.specs.Lines.{opening, request_lines, load_dialogue}

@@ -23,13 +23,13 @@ use Rattle.reply_text.specs.declared.origin.Origin.{Origin}
 use Rattle.dialogues.specs.BoardCalls.{origin_by, Asked}
 use Rattle.dialogues.specs.Dialogues.{Dialogue, Says, Posts, followed, answers_errno, unless}
 use Rattle.dialogues.specs.Lines.{line_dialogue, lines_dialogue}
-use Rattle.dialogues.specs.Piping.{end, completion_said, notice_said, completions, said_at_end}
+use Rattle.dialogues.specs.PipelineCommands.{end, completion_said, notice_said, completions, said_at_end}
 use Rattle.dialogues.specs.Questions.{Submit}
-use Rattle.dialogues.specs.Requesting.{request_of, size_of, is_too_big, value_of, asked_of, hands_in, requests_in}
+use Rattle.dialogues.specs.RequestCommands.{request_of, size_of, is_too_big, value_of, asked_of, hands_in, requests_in}
 use Rattle.dialogues.specs.ScriptState.{ScriptState, Live, PipelineState}
 use Rattle.sequential_model.specs.Pipelines.{Pipeline, drained}
 use Rattle.sequential_model.specs.Registry.{PlainRegistry}
-use Rattle.settled_scripts.specs.Passing.{posted}
+use Rattle.settled_scripts.specs.PlainRuns.{posted}
 use Rattle.settled_scripts.specs.Settled.{pass}
 use Rattle.load_mode.specs.Requests.{Drawn, cipher_key, key_of_a, is_on_a, asked_on_a, asked_on_g, asked_for, asked_from, of_a, of_g}
 use Rattle.load_mode.specs.Lines.{label_of_a, label_of_g, request_line}

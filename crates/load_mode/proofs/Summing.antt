@@ -13,8 +13,8 @@ use Rattle.board.specs.declared.entry.BoardEntry.{BoardEntry}
 use Rattle.board.specs.declared.entry.BoardEntry.TheVariants as event
 use Rattle.board.specs.Shapes.{is_pad as is_pad_shape, pad_born}
 use Rattle.board.specs.Entries.{is_of, entries_of, birth_in, birth, first, accepted_in, submissions, finished_in, unbroken, collected_in, collected, last_or, front, told, completes_from, Completes, caller_of}
-use Rattle.board.specs.Following.{GoesOn}
-use Rattle.board.specs.Handing.{is_collect, HandsNothing}
+use Rattle.board.specs.NextEntry.{GoesOn}
+use Rattle.board.specs.HandedOut.{is_collect, HandsNothing}
 use Rattle.board.specs.Legal.{Is, IsNoWorker, IsRight, AreRightAfter, LegalBoard}
 use Rattle.board.specs.Order.{handed_out, HandsOutTold, PadTellsFront}
 use Rattle.transforms.specs.declared.ask.Ask.{Ask}

@@ -17,7 +17,7 @@ use Rattle.transforms.specs.Finish.{finished_of}
 use Rattle.transforms.specs.RequestValue.{request_value, with_mac}
 use Rattle.std_defs.specs.Hmac.{hmac}
 use Rattle.dialogues.specs.BoardCalls.{origin_by, Asked}
-use Rattle.dialogues.specs.Piping.{completion_said}
+use Rattle.dialogues.specs.PipelineCommands.{completion_said}
 use Rattle.load_mode.specs.Requests.{Drawn, drawn_request, drawn_requests, mac_key, cipher_key, is_on_a, asked_on_a, asked_on_g, asked_for, asked_from, of_a, of_g, with_hmac, sealed_on_a, sealed_on_g}
 use Rattle.load_mode.specs.Turns.{bytes_told}
 use Rattle.load_mode.proofs.Passing.{told_of, IsSized}

@@ -6,7 +6,7 @@ use Rattle.script_text.specs.declared.commands.Line.TheVariants.{Cmd}
 use Rattle.dialogues.specs.BoardCalls.{Asked}
 use Rattle.dialogues.specs.Dialogues.{Dialogue}
 use Rattle.dialogues.specs.Lines.{lines_dialogue}
-use Rattle.dialogues.specs.Piping.{end}
+use Rattle.dialogues.specs.PipelineCommands.{end}
 use Rattle.dialogues.specs.ScriptState.{start}
 use Rattle.load_mode.specs.Requests.{key_of_a, cipher_key, is_on_a, load_requests}
 

@@ -19,7 +19,7 @@ use Rattle.transforms.specs.declared.request.Dir.TheVariants.{Enc}
 use Rattle.transforms.specs.declared.request.Request.{Request}
 use Rattle.transforms.specs.Tagged.{tagged}
 use Rattle.dialogues.specs.BoardCalls.{Asked}
-use Rattle.dialogues.specs.Requesting.{request_of}
+use Rattle.dialogues.specs.RequestCommands.{request_of}
 
 -- ---- draws
 

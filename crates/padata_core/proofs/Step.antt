@@ -1,7 +1,7 @@
 use Rattle.std.proofs.Common.{◌≡◌, ℕ, ◌+◌, ◌-◌, drop, List, [], ◌∷◌, ◌++◌, Option, Some, arith, append_assoc, ◌∙◌, ap, subst}
 use Rattle.std.proofs.lemmas.List.{drop-drop}
 use Rattle.padata_core.specs.Pad.{Pad, ready, done_from}
-use Rattle.padata_core.specs.Collecting.{StillCollecting}
+use Rattle.padata_core.specs.Collection.{StillCollecting}
 use Rattle.kc_base.specs.Handed.{Handed}
 use Rattle.kc_base.specs.declared.callback_list.Callback.TheVariants.{Done}
 

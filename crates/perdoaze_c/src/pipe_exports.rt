@@ -2,9 +2,9 @@
 
 ghost use Rattle.std.specs.Prelude.{◌≡◌, ⊤, None};
 ghost use Rattle.perdoaze_pipes.specs.Calls.{OnPipe, TakesInto, RunsIn, FinishesFrom, SubmitsBy, Drains, To};
-ghost use Rattle.perdoaze_pipes.specs.Managing.{Holds, Goes, Masks};
-ghost use Rattle.perdoaze_pipes.specs.Polling.{Polls};
-ghost use Rattle.perdoaze_pipes.specs.Submitting.{Begins, direction as direction_by};
+ghost use Rattle.perdoaze_pipes.specs.QueueControl.{Holds, Goes, Masks};
+ghost use Rattle.perdoaze_pipes.specs.Polls.{Polls};
+ghost use Rattle.perdoaze_pipes.specs.Submission.{Begins, direction as direction_by};
 
 use perdoaze_calls::Slot;
 use perdoaze_pipes::{Event, PipePlace, TaskPlace, calls};

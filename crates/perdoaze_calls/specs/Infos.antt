@@ -43,7 +43,8 @@ abbrev pub ghash_priority : GhashForm → ℕ
 ghash_priority GhashGeneric = 100
 ghash_priority GhashTable = 200
 
--- a template's is that of the driver under it; GCM's is the mean of its two, authenc's ten times its cipher's and its MAC's
+-- a template's is that of the driver under it; GCM's is the mean of its two, authenc's ten times its cipher's and its
+-- MAC's
 abbrev pub priority_of : Plan → ℕ
 priority_of (Cbc aes) = aes_priority aes
 priority_of (Ctr aes) = aes_priority aes
@@ -80,7 +81,8 @@ block_size_of (AuthencCtr aes) = 1
 block_size_of (AuthencRfc3686 aes) = 1
 block_size_of (AuthencXts aes) = 16
 
--- the bytes of the shortest key, and of the longest; authenc's blob begins with 8 bytes, and has a MAC's key of any length
+-- the bytes of the shortest key, and of the longest; authenc's blob begins with 8 bytes, and has a MAC's key of any
+-- length
 abbrev pub least_key : Plan → ℕ
 least_key (Cbc aes) = 16
 least_key (Ctr aes) = 16

@@ -129,8 +129,8 @@ fn goes_directly(key: StepKey<'_>, iv: &[u8], aad: &[u8], text: &[u8], tag_size:
         && tag_size <= key.most_tag()
 }
 
-/// Seals the text into the front of `out`, and writes the tag behind the ciphertext, where the plan is CBC or authenc over it and the
-/// request is taken. Otherwise nothing is done.
+/// Seals the text into the front of `out`, and writes the tag behind the ciphertext, where the plan is CBC or authenc
+/// over it and the request is taken. Otherwise nothing is done.
 pub(crate) fn seal_directly(
     keyed: &Keyed,
     iv: &[u8],

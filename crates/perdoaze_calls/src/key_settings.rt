@@ -10,7 +10,8 @@ use std::sync::Arc;
 use transforms::{Keyed, tag_size};
 
 impl Transform {
-    /// Sets the key. `Invalid` exactly where the plan doesn't take it, unless memory ran out: the key stays as it was then.
+    /// Sets the key. `Invalid` exactly where the plan doesn't take it, unless memory ran out: the key stays as it was
+    /// then.
     pub fn set_key(&mut self, alloc: Global, key: &[u8]) -> Status
         ensures { KeySet (Some self.old) (Some self.new) key.now result }
     {

@@ -31,7 +31,8 @@ pub fn key_sizes_are_exact()
     ensures unlimited { (p : Plan) (n : ℕ) → greatest_key p ≡ no_limit → least_key p ≤ n → TakesSize p n }
 {}
 
-/// An algorithm's name stands for a driver of that algorithm, and no driver of it that is listed has a greater priority.
+/// An algorithm's name stands for a driver of that algorithm, and no driver of it that is listed has a greater
+/// priority.
 pub fn names_stand_for_the_fastest()
     ensures { (p : Plan) → HasFastest p }
 {}

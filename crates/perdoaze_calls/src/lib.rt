@@ -1,4 +1,5 @@
-//! The transforms as C calls them: places for a transform, and what each call does to one. `perdoaze_c` exports the calls.
+//! The transforms as C calls them: places for a transform, and what each call does to one. `perdoaze_c` exports the
+//! calls.
 #![tactic(auto)]
 
 pub mod calls;

@@ -112,8 +112,8 @@ fn add_chain(bytes: &mut [u8; 32], chain: &[u8; 16])
     copy_front(&sum, bytes);
 }
 
-/// CMAC of the pieces' bytes, of which there are `n`, as one message. The blocks before the last 17 to 32 bytes are taken into the chain.
-/// That is added to what is left, whose MAC is then the whole text's.
+/// CMAC of the pieces' bytes, of which there are `n`, as one message. The blocks before the last 17 to 32 bytes are
+/// taken into the chain. That is added to what is left, whose MAC is then the whole text's.
 fn cmac_of<C: BlockCipher + Drop>(mac: &Cmac<C>, pieces: &[Piece<'_>], n: usize) -> [u8; 16]
     requires all { n ≡ length (text_in pieces.now) }
     requires short { n < 2 ^ 32 }
@@ -175,7 +175,8 @@ fn make_by(
     }
 }
 
-/// The MAC of the pieces, which have `n` bytes, fewer than 2^32, at the front of `room`, and how many bytes it has. `EINVAL` exactly where the plan is no MAC.
+/// The MAC of the pieces, which have `n` bytes, fewer than 2^32, at the front of `room`, and how many bytes it has.
+/// `EINVAL` exactly where the plan is no MAC.
 pub fn make_of_pieces(
     keyed: &Keyed,
     pieces: &[Piece<'_>],

@@ -186,8 +186,8 @@ fn lens_of(asked: &[Encryption<'_>]) -> [usize; 8]
 }
 
 impl Transform {
-    /// Answers at most eight requests in step, where the plan is CBC or authenc over it, and none of them is refused. Otherwise nothing
-    /// is done.
+    /// Answers at most eight requests in step, where the plan is CBC or authenc over it, and none of them is refused.
+    /// Otherwise nothing is done.
     fn encrypt_in_step(&self, asked: &mut [Encryption<'_>], buffers: &mut [PieceMut<'_>]) -> bool
         ensures came { IsTrue result → (i : ℕ) → i < length asked.old → i < length buffers.old
             → CameTo (Some self.now) asked.old asked.new buffers.old buffers.new i }

@@ -1,4 +1,5 @@
-//! Requests to a transform. The text is changed where the answer goes, or sealed from its place into that one, so that no memory is taken.
+//! Requests to a transform. The text is changed where the answer goes, or sealed from its place into that one, so that
+//! no memory is taken.
 
 ghost use Rattle.std.specs.Prelude.{◌≡◌, ◌≤◌, ◌<◌, ◌^◌, ◌+◌, ◌-◌, ◌++◌, ◌⊎◌, length, take, drop, replicate, true, IsTrue, IsFalse, MatchResult, None, Some};
 ghost use Rattle.std_defs.specs.Value.Value.{bytes};
@@ -222,8 +223,8 @@ impl Transform {
         }
     }
 
-    /// Encrypts `text` into `out` without a copy of it, and writes the tag behind the ciphertext, where the plan is CBC or authenc over it
-    /// and nothing is refused. Otherwise `out` stays.
+    /// Encrypts `text` into `out` without a copy of it, and writes the tag behind the ciphertext, where the plan is CBC
+    /// or authenc over it and nothing is refused. Otherwise `out` stays.
     fn encrypt_directly(
         &self,
         iv: &[u8],

@@ -132,8 +132,8 @@ impl Transform {
         status
     }
 
-    /// Encrypts the first `n` bytes of the pieces in their place, and writes the tag behind them. It takes memory for all of them where they
-    /// have more than 4,160 bytes together.
+    /// Encrypts the first `n` bytes of the pieces in their place, and writes the tag behind them. It takes memory for
+    /// all of them where they have more than 4,160 bytes together.
     pub fn encrypt_pieces_within(
         &self,
         alloc: Global,
@@ -159,8 +159,8 @@ impl Transform {
         status
     }
 
-    /// Decrypts the first `n` bytes of the pieces in their place, of which the last are the tag. It takes memory for all of them where they
-    /// have more than 4,160 bytes together.
+    /// Decrypts the first `n` bytes of the pieces in their place, of which the last are the tag. It takes memory for
+    /// all of them where they have more than 4,160 bytes together.
     pub fn decrypt_pieces_within(
         &self,
         alloc: Global,

@@ -9,9 +9,9 @@ use Rattle.board.specs.Allowance.{IsAllowed}
 use Rattle.board.specs.declared.board_core.BoardErr.{BoardErr}
 use Rattle.board.specs.declared.board_core.BoardErr.TheVariants.{NoWorker, TooBig, Memory}
 use Rattle.transforms.specs.AskValue.{ask_size}
-use Rattle.perdoaze_pipes.specs.Submitting.{Accepts, Decides}
+use Rattle.perdoaze_pipes.specs.Submission.{Accepts, Decides}
 use Rattle.perdoaze_pipes.specs.Turns.{ComesTo}
-use Rattle.perdoaze_pipes.specs.Working.{Takes}
+use Rattle.perdoaze_pipes.specs.PipeWork.{Takes}
 use Rattle.perdoaze_pipes.specs.declared.answer.Answer.TheVariants as answer
 use Rattle.perdoaze_pipes.specs.declared.task.Task.{Task}
 use Rattle.perdoaze_pipes.specs.declared.task.Task.TheVariants as tasks
@@ -31,9 +31,9 @@ use Rattle.transforms.specs.declared.ask.Ask.{Ask}
 use Rattle.transforms.specs.declared.request.Finished.{Finished}
 use Rattle.perdoaze_pipes.specs.Laws.{Laws}
 use Rattle.perdoaze_pipes.specs.Orders.{OrderOf, TakenBy, HasPassed, passed_by, finished_by}
-use Rattle.perdoaze_pipes.specs.Polling.{PipeOf, IsRefilled, collected_order, delivered_by, delivered_after, all_delivered, IsLeft, IsCollected}
+use Rattle.perdoaze_pipes.specs.Polls.{PipeOf, IsRefilled, collected_order, delivered_by, delivered_after, all_delivered, IsLeft, IsCollected}
 use Rattle.perdoaze_pipes.specs.Outcomes.{outcome}
-use Rattle.perdoaze_pipes.specs.Running.{RunOf}
+use Rattle.perdoaze_pipes.specs.TaskRuns.{RunOf}
 use Rattle.perdoaze_pipes.proofs.Keeping.{take_here, finish_here}
 
 delivered_last : (before es : List (BoardEntry Ask)) (e : BoardEntry Ask) → delivered_after before (es ++ e ∷ []) ≡ delivered_after before es ++ delivered_by (before ++ es) e

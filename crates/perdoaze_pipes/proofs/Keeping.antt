@@ -12,17 +12,17 @@ use Rattle.board.specs.declared.entry.Shape.TheVariants as shapes
 use Rattle.board.specs.declared.entry.Entered.{Entered}
 use Rattle.board.specs.declared.entry.BoardEntry.{BoardEntry}
 use Rattle.board.specs.declared.entry.BoardEntry.TheVariants.{Born, Submit, Take, Finish, Enq, Deq, Done, Hold, Go, Collect, Close, Share, Mask, Shut}
-use Rattle.board.specs.Shapes.{is_pad, has_line, is_chain, is_born, queue_born, IsShape}
+use Rattle.board.specs.Shapes.{is_pad, has_queue, is_chain, is_born, queue_born, IsShape}
 use Rattle.board.specs.Entries.{entries_of, birth, starts, submissions, is_pipe, is_of, pipe_of, is_close, is_closed, is_share, is_shared, maker_is, caller_of, take_entry, finish_entry, pass_entry, NonePasses}
 use Rattle.board.specs.Legal.{Is, IsOpen, MaySubmit, MayManage, MayFinish, LegalBoard}
-use Rattle.board.specs.Staying.{is_work}
+use Rattle.board.specs.PipelineHistory.{is_work}
 use Rattle.board.proofs.Keeping.{birth_stays}
 use Rattle.board.proofs.Kept.{closed-same, shared-same}
 use Rattle.transforms.specs.declared.ask.Ask.{Ask}
 use Rattle.perdoaze_pipes.specs.Laws.{Laws}
 use Rattle.perdoaze_pipes.specs.Orders.{OrderOf, Runs, IsOrder, TakenBy, passed_by}
 use Rattle.perdoaze_pipes.specs.Outcomes.{outcome}
-use Rattle.perdoaze_pipes.specs.Running.{RunOf}
+use Rattle.perdoaze_pipes.specs.TaskRuns.{RunOf}
 
 abbrev order_of : List (BoardEntry Ask) → List (Option RunOf) → OrderOf
 order_of h running = record { history = h; running = running }
@@ -44,8 +44,8 @@ of_shape such shape h running b o e = ap (is_born such) o.born ∙ e
 
 open_by : (h : List (BoardEntry Ask)) (running : List (Option RunOf)) (shape : Shape) → IsOrder shape h running → IsOpen (entries_of 0 h)
 open_by h running (shapes.Pad lists) o = inl (of_shape is_pad (shapes.Pad lists) h running true o refl, o.opened)
-open_by h running (shapes.Queue max) o = inr (of_shape has_line (shapes.Queue max) h running true o refl, o.opened)
-open_by h running (shapes.Chain max lists) o = inr (of_shape has_line (shapes.Chain max lists) h running true o refl, o.opened)
+open_by h running (shapes.Queue max) o = inr (of_shape has_queue (shapes.Queue max) h running true o refl, o.opened)
+open_by h running (shapes.Chain max lists) o = inr (of_shape has_queue (shapes.Chain max lists) h running true o refl, o.opened)
 
 pub is_open : (shape : Shape) (h : List (BoardEntry Ask)) (running : List (Option RunOf)) → IsOrder shape h running → IsOpen (entries_of 0 h)
 is_open shape h running o = open_by h running shape o

@@ -11,7 +11,7 @@ use Rattle.kc_base.specs.declared.callback_list.Callback.TheVariants as callback
 use Rattle.board.specs.declared.entry.BoardEntry.{BoardEntry}
 use Rattle.board.specs.declared.entry.BoardEntry.TheVariants.{Born, Submit, Take, Finish, Enq, Deq, Done, Hold, Go, Collect, Close, Share, Mask, Shut}
 use Rattle.board.specs.Entries.{Notice, Starts, Completes, entries_of, accepted_in, submissions, has, front, told, collected, completion, meaning_at, callback_of, delivered}
-use Rattle.board.specs.Handing.{is_collect}
+use Rattle.board.specs.HandedOut.{is_collect}
 use Rattle.board.specs.Legal.{IsRightFor, LegalBoard}
 use Rattle.board.specs.Order.{handed_in, handed_after, handed_out, AreRightForAfter, completed_in, completed, numbers_below, HandsOutAll, FrontIsAll, HandsOutInOrder}
 use Rattle.board.proofs.Lists.{length-numbers}
@@ -22,8 +22,8 @@ use Rattle.transforms.specs.declared.ask.Ask.{Ask}
 use Rattle.transforms.specs.declared.request.Finished.{Finished}
 use Rattle.perdoaze_pipes.specs.Laws.{Laws}
 use Rattle.perdoaze_pipes.specs.Outcomes.{outcome}
-use Rattle.perdoaze_pipes.specs.Polling.{PipeOf, delivered_by, delivered_after, all_delivered, IsRefilled}
-use Rattle.perdoaze_pipes.specs.Telling.{delivered_of, told_by, TellsFront, PollAdds, RefillAdds, EntryAdds, number_of, numbers_of, DeliversHandedOut, TellsInOrder, HasValue, TellsValues, TellsAll}
+use Rattle.perdoaze_pipes.specs.Polls.{PipeOf, delivered_by, delivered_after, all_delivered, IsRefilled}
+use Rattle.perdoaze_pipes.specs.PipeHistory.{delivered_of, told_by, TellsFront, PollAdds, RefillAdds, EntryAdds, number_of, numbers_of, DeliversHandedOut, TellsInOrder, HasValue, TellsValues, TellsAll}
 use Rattle.perdoaze_pipes.proofs.Delivering.{delivered_more}
 
 -- ---- a list's front

@@ -4,10 +4,10 @@ use Rattle.board.specs.Entries.{entries_of, submissions, front}
 use Rattle.transforms.specs.declared.request.Dir.{Dir}
 use Rattle.perdoaze_calls.specs.declared.transform.Transform.{Transform}
 use Rattle.perdoaze_pipes.specs.Answers.{code_of}
-use Rattle.perdoaze_pipes.specs.Polling.{PipeOf, collecting}
-use Rattle.perdoaze_pipes.specs.Submitting.{asking, Submits}
+use Rattle.perdoaze_pipes.specs.Polls.{PipeOf, collecting}
+use Rattle.perdoaze_pipes.specs.Submission.{asking, Submits}
 use Rattle.perdoaze_pipes.specs.Tasks.{Runs}
-use Rattle.perdoaze_pipes.specs.Working.{Takes, Finishes}
+use Rattle.perdoaze_pipes.specs.PipeWork.{Takes, Finishes}
 use Rattle.perdoaze_pipes.specs.declared.answer.Answer.{Answer}
 use Rattle.perdoaze_pipes.specs.declared.answer.Answer.TheVariants as answer
 use Rattle.perdoaze_pipes.specs.declared.task.Task.{Task}

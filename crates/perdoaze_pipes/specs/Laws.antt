@@ -2,7 +2,7 @@
 use Rattle.std.specs.Prelude.{ℕ, List}
 use Rattle.board.specs.declared.entry.BoardEntry.{BoardEntry}
 use Rattle.board.specs.Order.{HandsOutInOrder, HandsOutAll, FrontIsAll}
-use Rattle.board.specs.Staying.{Joins, LeavesOthers, SlipStays, TakingIsWork, FinishingIsWork, PassingIsWork}
+use Rattle.board.specs.PipelineHistory.{Joins, LeavesOthers, SlipStays, TakingIsWork, FinishingIsWork, PassingIsWork}
 use Rattle.transforms.specs.declared.ask.Ask.{Ask}
 use Rattle.transforms.specs.declared.request.Finished.{Finished}
 use Rattle.perdoaze_pipes.specs.Outcomes.{outcome}

@@ -7,7 +7,7 @@ use Rattle.board.specs.Entries.{entries_of, birth, submissions, is_closed, is_sh
 use Rattle.board.specs.Legal.{Is, MayFinish, LegalBoard}
 use Rattle.transforms.specs.declared.ask.Ask.{Ask}
 use Rattle.perdoaze_pipes.specs.Outcomes.{outcome}
-use Rattle.perdoaze_pipes.specs.Running.{RunOf}
+use Rattle.perdoaze_pipes.specs.TaskRuns.{RunOf}
 
 -- the pipeline's history, and what each worker runs: worker 1 in front
 pub record OrderOf : Type 0 where

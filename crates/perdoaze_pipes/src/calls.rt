@@ -2,9 +2,9 @@
 
 ghost use Rattle.std.specs.Prelude.{◌≡◌, ⊤, None, MatchOption};
 ghost use Rattle.perdoaze_pipes.specs.Calls.{OnPipe, TakesInto, task_in, RunsIn, FinishesFrom, SubmitsBy, Drains};
-ghost use Rattle.perdoaze_pipes.specs.Managing.{Holds, Goes, Masks};
-ghost use Rattle.perdoaze_pipes.specs.Polling.{Polls};
-ghost use Rattle.perdoaze_pipes.specs.Submitting.{Begins, direction as direction_by};
+ghost use Rattle.perdoaze_pipes.specs.QueueControl.{Holds, Goes, Masks};
+ghost use Rattle.perdoaze_pipes.specs.Polls.{Polls};
+ghost use Rattle.perdoaze_pipes.specs.Submission.{Begins, direction as direction_by};
 
 use crate::answer::Answer;
 use crate::event::Event;

@@ -1,5 +1,5 @@
-//! Pipelines as C calls them: requests that run beside one another, under the threads of the caller, and come back in order.
-//! `perdoaze_c` exports the calls.
+//! Pipelines as C calls them: requests that run beside one another, under the threads of the caller, and come back in
+//! order. `perdoaze_c` exports the calls.
 #![tactic(auto)]
 
 mod answer;

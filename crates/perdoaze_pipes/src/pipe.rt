@@ -4,9 +4,9 @@ ghost use Rattle.std.specs.Prelude.{◌≡◌, ◌≢◌, ◌≤◌, ◌<◌, �
 ghost use Rattle.kc_base.specs.declared.callback_list.Callback.{Callback as Told};
 ghost use Rattle.transforms.specs.declared.request.Finished.{Finished as Outcome};
 ghost use Rattle.perdoaze_pipes.specs.Calls.{Drains};
-ghost use Rattle.perdoaze_pipes.specs.Submitting.{Begins};
+ghost use Rattle.perdoaze_pipes.specs.Submission.{Begins};
 ghost use Rattle.perdoaze_pipes.specs.declared.answer.Answer.TheVariants as answers;
-ghost use Rattle.perdoaze_pipes.specs.Polling.{IsRefilled, IsCollected, collecting, Tells, HasNoRoom, Polls, event_of};
+ghost use Rattle.perdoaze_pipes.specs.Polls.{IsRefilled, IsCollected, collecting, Tells, HasNoRoom, Polls, event_of};
 
 use crate::answer::Answer;
 use crate::event::Event;
@@ -35,9 +35,9 @@ pub struct Pipe {
 impl Model for Pipe {
     ghost use Rattle.std.specs.Prelude.{◌≡◌, ◌≤◌, false, length, drop};
     ghost use Rattle.perdoaze_pipes.specs.Calls.{Drains};
-    ghost use Rattle.perdoaze_pipes.specs.Submitting.{Begins};
+    ghost use Rattle.perdoaze_pipes.specs.Submission.{Begins};
     ghost use Rattle.perdoaze_pipes.specs.declared.answer.Answer.TheVariants as answers;
-    ghost use Rattle.perdoaze_pipes.specs.Polling.{PipeOf, IsLeft, IsCollected};
+    ghost use Rattle.perdoaze_pipes.specs.Polls.{PipeOf, IsLeft, IsCollected};
 
     ghost Value = { PipeOf };
 
@@ -87,8 +87,9 @@ fn tell(callback: &Callback<Finished>, event: &mut Event, out: &mut [u8]) -> boo
 }
 
 impl Pipe {
-    /// A pipe of this kind, of which nothing was asked: 1 is a pad of `lists` reorder lists, 1 to 16; 2 a queue of which `max` requests
-    /// wait before its backlog begins, at least 1; 3 such a queue whose requests go on to such a pad.
+    /// A pipe of this kind, of which nothing was asked: 1 is a pad of `lists` reorder lists, 1 to 16; 2 a queue of
+    /// which `max` requests wait before its backlog begins, at least 1; 3 such a queue whose requests go on to such a
+    /// pad.
     pub fn new(alloc: Global, id: u64, kind: u32, max: u32, lists: u32) -> Result<Pipe, Answer>
         ensures { MatchResult result
             (λ p. Begins (Some p) id kind max lists answers.Done)

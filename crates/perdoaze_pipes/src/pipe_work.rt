@@ -2,7 +2,7 @@
 
 ghost use Rattle.std.specs.Prelude.{◌≡◌, ◌↔◌, ◌≤◌, ◌-◌, None, true, IsTrue, IfSome, get_or};
 ghost use Rattle.perdoaze_pipes.specs.Outcomes.{outcome};
-ghost use Rattle.perdoaze_pipes.specs.Working.{Takes, Finishes, IsMine, IsOrderAlone};
+ghost use Rattle.perdoaze_pipes.specs.PipeWork.{Takes, Finishes, IsMine, IsOrderAlone};
 ghost use Rattle.perdoaze_pipes.specs.Orders.{FinishedBy};
 
 use crate::answer::Answer;
@@ -22,8 +22,8 @@ fn is_worker(n: u32) -> bool
 }
 
 impl Pipe {
-    /// Hands a job to a worker, 1 to 16, that has none, into a place that has none. `Done` where there is none for it, also after a
-    /// request of a chain went on to its pad.
+    /// Hands a job to a worker, 1 to 16, that has none, into a place that has none. `Done` where there is none for it,
+    /// also after a request of a chain went on to its pad.
     pub fn take(&mut self, worker: u32, task: &mut Task) -> Answer
         ensures { Takes self.old self.new worker result task.old task.new }
     {

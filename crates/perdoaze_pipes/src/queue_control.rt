@@ -2,14 +2,15 @@
 
 ghost use Rattle.std.specs.Prelude.{◌≡◌, MatchResult};
 ghost use Rattle.board.specs.declared.entry.BoardEntry.TheVariants as Entry;
-ghost use Rattle.perdoaze_pipes.specs.Managing.{Holds, Goes, Masks};
+ghost use Rattle.perdoaze_pipes.specs.QueueControl.{Holds, Goes, Masks};
 
 use crate::answer::Answer;
 use crate::laws::board_laws;
 use crate::pipe::Pipe;
 
 impl Pipe {
-    /// From now on no request of the queue is run, or goes on to the pad of a chain. `Invalid` where the pipe has no queue.
+    /// From now on no request of the queue is run, or goes on to the pad of a chain. `Invalid` where the pipe has no
+    /// queue.
     pub fn hold(&mut self) -> Answer
         ensures { Holds self.old self.new result }
     {
@@ -39,8 +40,9 @@ impl Pipe {
         }
     }
 
-    /// From now on the workers whose bits are set take from the pad: bit i stands for worker i + 1. Where none is set, it accepts
-    /// nothing. `Invalid` where the pipe is no pad, or a bit stands at or above the number of its reorder lists.
+    /// From now on the workers whose bits are set take from the pad: bit i stands for worker i + 1. Where none is set,
+    /// it accepts nothing. `Invalid` where the pipe is no pad, or a bit stands at or above the number of its reorder
+    /// lists.
     pub fn mask(&mut self, bits: u32) -> Answer
         ensures { Masks self.old self.new bits result }
     {

@@ -8,7 +8,7 @@ ghost use Rattle.board.specs.declared.entry.BoardEntry.TheVariants as Entry;
 ghost use Rattle.board.specs.declared.board_core.BoardErr.TheVariants as BoardErr;
 ghost use Rattle.board.specs.Allowance.{IsAllowed};
 ghost use Rattle.board.specs.Legal.{Is, LegalBoard};
-ghost use Rattle.board.specs.Shapes.{is_chain, pad_born, line_born, width_born, IsShape};
+ghost use Rattle.board.specs.Shapes.{is_chain, pad_born, has_queue_born, width_born, IsShape};
 ghost use Rattle.board.specs.Entries.{entries_of, birth, submissions, front, mask, verdict, told, delivered, NoneFor, NonePasses};
 ghost use Rattle.transforms.specs.AskValue.{ask_size};
 ghost use Rattle.perdoaze_pipes.specs.Orders.{TakenBy, FinishedBy, passed_by};
@@ -27,7 +27,8 @@ use std::marker::Model;
 use std::sync::Arc;
 use transforms::Finished;
 
-/// One pipeline on a board of its own, and the jobs of it that workers run. Each call appends its entry to the board's history.
+/// One pipeline on a board of its own, and the jobs of it that workers run. Each call appends its entry to the board's
+/// history.
 #[derive(Drop)]
 pub struct Requests {
     board: BoardCore<PipeJob>,
@@ -88,7 +89,7 @@ impl Requests {
     /// Whether the pipeline is a pad. Otherwise a queue stands in front of it.
     pub(crate) fn is_pad(&self) -> bool
         ensures { let b = birth (entries_of 0 self.now.history) in MatchBool result
-            ((pad_born b ≡ true) × (line_born b ≡ false)) ((pad_born b ≡ false) × (line_born b ≡ true)) }
+            ((pad_born b ≡ true) × (has_queue_born b ≡ false)) ((pad_born b ≡ false) × (has_queue_born b ≡ true)) }
     {
         match self.shape {
             Shape::Pad(_) => true,
@@ -146,7 +147,7 @@ impl Requests {
 
     /// Offers a job to a queue or chain, with leave to wait in the backlog or not, and answers its verdict.
     pub(crate) fn enqueue(&mut self, job: PipeJob, backlog: bool) -> Result<Entered, BoardErr>
-        requires { line_born (birth (entries_of 0 self.old.history)) ≡ true }
+        requires { has_queue_born (birth (entries_of 0 self.old.history)) ≡ true }
         ensures answered { let es = entries_of 0 self.old.history in MatchResult result
             (λ said. (said ≡ verdict es backlog) × ((ask : Arc AskOf GlobalMemory) × (arc_value ask ≡ arc_value job.job.ask)
             × (self.new ≡ record self.old { history = self.old.history ++ Entry.Enq 0 0 ask backlog said ∷ [] })))
@@ -160,7 +161,7 @@ impl Requests {
 
     /// From now on no request of a queue is run, and none of a chain goes on. Only want of memory refuses.
     pub(crate) fn hold(&mut self) -> Result<(), BoardErr>
-        requires { line_born (birth (entries_of 0 self.old.history)) ≡ true }
+        requires { has_queue_born (birth (entries_of 0 self.old.history)) ≡ true }
         ensures { MatchResult result
             (λ _. self.new ≡ record self.old { history = self.old.history ++ Entry.Hold 0 0 ∷ [] })
             (λ _. self.new ≡ self.old) }
@@ -171,7 +172,7 @@ impl Requests {
 
     /// A queue's requests are run again, and a chain's go on. Only want of memory refuses.
     pub(crate) fn go(&mut self) -> Result<(), BoardErr>
-        requires { line_born (birth (entries_of 0 self.old.history)) ≡ true }
+        requires { has_queue_born (birth (entries_of 0 self.old.history)) ≡ true }
         ensures { MatchResult result
             (λ _. self.new ≡ record self.old { history = self.old.history ++ Entry.Go 0 0 ∷ [] })
             (λ _. self.new ≡ self.old) }
@@ -192,8 +193,8 @@ impl Requests {
         self.board.mask(0, 0, bits)
     }
 
-    /// Hands a job to a worker that has none, 1 to 16. Where there is none for it, a request of a chain goes on to its pad, if one may,
-    /// and then the worker gets a job that there is for it.
+    /// Hands a job to a worker that has none, 1 to 16. Where there is none for it, a request of a chain goes on to its
+    /// pad, if one may, and then the worker gets a job that there is for it.
     pub(crate) fn take(&mut self, worker: u32) -> Turn
         requires one { 1 ≤ worker }
         requires sixteen { worker ≤ 16 }
@@ -212,7 +213,8 @@ impl Requests {
         }
     }
 
-    /// The first request of a chain's queue goes on to its pad, by a worker that has no job. False exactly where none may.
+    /// The first request of a chain's queue goes on to its pad, by a worker that has no job. False exactly where none
+    /// may.
     fn pass_on(&mut self, worker: u32) -> bool
         requires one { 1 ≤ worker }
         requires free { get_or self.old.running (worker - 1) None ≡ None }
@@ -224,7 +226,8 @@ impl Requests {
         self.board.pass_on(worker)
     }
 
-    /// Hands a job to a worker that has none, 1 to 16, and notes that it runs. `None` exactly where there is none for it.
+    /// Hands a job to a worker that has none, 1 to 16, and notes that it runs. `None` exactly where there is none for
+    /// it.
     fn take_job(&mut self, worker: u32) -> Option<Handed>
         requires one { 1 ≤ worker }
         requires sixteen { worker ≤ 16 }

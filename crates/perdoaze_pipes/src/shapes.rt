@@ -2,7 +2,7 @@
 
 ghost use Rattle.std.specs.Prelude.{◌≡◌, ◌↔◌, IsTrue};
 ghost use Rattle.board.specs.Shapes.{IsShape, AreLists};
-ghost use Rattle.perdoaze_pipes.specs.Submitting.{shape_by};
+ghost use Rattle.perdoaze_pipes.specs.Submission.{shape_by};
 
 use board::Shape;
 

@@ -3,13 +3,13 @@
 ghost use Rattle.std.specs.Prelude.{◌≡◌, ◌^◌, ◌<◌, ◌⊎◌, ⊤, true, false, Some, MatchResult, length};
 ghost use Rattle.std.specs.Arc.{arc_value};
 ghost use Rattle.board.specs.Entries.{entries_of, birth};
-ghost use Rattle.board.specs.Shapes.{pad_born, line_born};
+ghost use Rattle.board.specs.Shapes.{pad_born, has_queue_born};
 ghost use Rattle.transforms.specs.Cuts.{in_one};
 ghost use Rattle.transforms.specs.Asked.{takes};
 ghost use Rattle.transforms.specs.Plans.{fits_tag};
 ghost use Rattle.transforms.specs.declared.tfm_err.TfmErr.TheVariants as TfmErr;
 ghost use Rattle.perdoaze_pipes.specs.Calls.{SubmitsBy};
-ghost use Rattle.perdoaze_pipes.specs.Submitting.{direction as direction_by, asking, IsAskOf, IsNoAsk, IsUnder, Accepts, EntersPad, Decides, EntersQueue, Enters};
+ghost use Rattle.perdoaze_pipes.specs.Submission.{direction as direction_by, asking, IsAskOf, IsNoAsk, IsUnder, Accepts, EntersPad, Decides, EntersQueue, Enters};
 
 use crate::answer::Answer;
 use crate::job::PipeJob;
@@ -91,8 +91,8 @@ fn job_under(
     Ok(PipeJob::new(job)?)
 }
 
-/// The job of a request to a transform. `NoKey` where none was set, `Invalid` where the transform doesn't take the request, or it has
-/// 2^32 bytes or more.
+/// The job of a request to a transform. `NoKey` where none was set, `Invalid` where the transform doesn't take the
+/// request, or it has 2^32 bytes or more.
 pub(crate) fn job_of(
     transform: &Transform,
     alloc: Global,
@@ -122,8 +122,8 @@ pub(crate) fn job_of(
 }
 
 impl Pipe {
-    /// Asks the transform, under the key and the tag size that it has now, and answers whether the request is accepted, and as which: within
-    /// the bound of a queue, or in its backlog, where `backlog` gives leave.
+    /// Asks the transform, under the key and the tag size that it has now, and answers whether the request is accepted,
+    /// and as which: within the bound of a queue, or in its backlog, where `backlog` gives leave.
     pub fn submit(
         &mut self,
         transform: &Transform,
@@ -185,7 +185,7 @@ impl Pipe {
 
     /// Offers a job to the queue.
     fn decide(&mut self, job: PipeJob, backlog: bool) -> Result<Entered, BoardErr>
-        requires { line_born (birth (entries_of 0 self.old.order.history)) ≡ true }
+        requires { has_queue_born (birth (entries_of 0 self.old.order.history)) ≡ true }
         ensures { Decides self.old self.new (arc_value job.job.ask) backlog result }
     {
         board_laws();
@@ -195,7 +195,7 @@ impl Pipe {
 
     /// Offers a job to the queue, and answers its verdict.
     fn enter_queue(&mut self, job: PipeJob, backlog: bool, number: &mut u64) -> Answer
-        requires { line_born (birth (entries_of 0 self.old.order.history)) ≡ true }
+        requires { has_queue_born (birth (entries_of 0 self.old.order.history)) ≡ true }
         ensures { EntersQueue self.old self.new (arc_value job.job.ask) backlog result number.old number.new }
     {
         match self.decide(job, backlog) {

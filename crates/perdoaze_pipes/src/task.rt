@@ -2,7 +2,7 @@
 
 ghost use Rattle.std.specs.Prelude.{◌≡◌, MatchBool};
 ghost use Rattle.perdoaze_pipes.specs.Tasks.{Runs};
-ghost use Rattle.perdoaze_pipes.specs.Working.{IsFull};
+ghost use Rattle.perdoaze_pipes.specs.PipeWork.{IsFull};
 ghost use Rattle.perdoaze_pipes.specs.declared.task.Task.TheVariants as tasks;
 
 use crate::answer::Answer;

@@ -9,8 +9,8 @@ use std::mem::{self, ManuallyDrop};
 use std::sync::Arc;
 use transforms::Ask;
 
-/// A job that a worker took: the right to finish it, and what it was asked. What runs when its pipe is freed goes with the board,
-/// and so does its slip.
+/// A job that a worker took: the right to finish it, and what it was asked. What runs when its pipe is freed goes with
+/// the board, and so does its slip.
 #[derive(Drop)]
 pub struct Running {
     slip: ManuallyDrop<Slip>,
@@ -20,7 +20,7 @@ pub struct Running {
 impl Model for Running {
     ghost use Rattle.std.specs.Arc.{arc_value};
     ghost use Rattle.core.specs.Mem.{manually_drop_value};
-    ghost use Rattle.perdoaze_pipes.specs.Running.{RunOf};
+    ghost use Rattle.perdoaze_pipes.specs.TaskRuns.{RunOf};
 
     ghost Value = { RunOf };
 

@@ -5,10 +5,10 @@ use Rattle.board.specs.declared.entry.Shape.{Shape}
 use Rattle.board.specs.declared.entry.Shape.TheVariants.{Pad, Queue, Chain}
 use Rattle.board.specs.declared.entry.BoardEntry.{BoardEntry}
 use Rattle.board.specs.declared.entry.BoardEntry.TheVariants.{Born}
-use Rattle.board.specs.Shapes.{is_pad, has_line, is_born}
+use Rattle.board.specs.Shapes.{is_pad, has_queue, is_born}
 use Rattle.board.specs.Entries.{entries_of, birth, is_close, caller_of}
 use Rattle.board.specs.Legal.{IsOpenAs, IsOpen, MayFinish, LegalBoard}
-use Rattle.board.specs.Staying.{Opens, StaysOpen, StaysManaged, SlipStays, IsOpenFor}
+use Rattle.board.specs.PipelineHistory.{Opens, StaysOpen, StaysManaged, SlipStays, IsOpenFor}
 
 -- the history of a board after a call that appends one entry or none
 abbrev pub MayAppend : {X : Type 0} → List X → List X → X → Type 0
@@ -24,7 +24,7 @@ done old new e (Ok t) h = inl h
 done old new e (Err x) h = inr h
 
 -- each shape is a pad's, or has a queue in front
-is_one : (such : Shape → Bool) (birth : Option (ℕ × Shape)) → is_born such birth ≡ true → (is_born is_pad birth ≡ true) ⊎ (is_born has_line birth ≡ true)
+is_one : (such : Shape → Bool) (birth : Option (ℕ × Shape)) → is_born such birth ≡ true → (is_born is_pad birth ≡ true) ⊎ (is_born has_queue birth ≡ true)
 is_one such (Some (maker, Pad lists)) h = inl refl
 is_one such (Some (maker, Queue max)) h = inr refl
 is_one such (Some (maker, Chain max lists)) h = inr refl

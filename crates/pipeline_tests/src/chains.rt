@@ -3,8 +3,8 @@
 ghost use Rattle.std.specs.Prelude.{ℕ, IfOk};
 ghost use Rattle.board.specs.Entries.{entries_of};
 ghost use Rattle.board.specs.Legal.{MayFinish};
-ghost use Rattle.board.specs.Shapes.{has_line};
-ghost use Rattle.board.specs.Staying.{IsOpenFor};
+ghost use Rattle.board.specs.Shapes.{has_queue};
+ghost use Rattle.board.specs.PipelineHistory.{IsOpenFor};
 
 use crate::echo::{Echo, Said, new_board, yes_or_no};
 use crate::queues::Lines;
@@ -15,7 +15,7 @@ use std::process::Abort;
 
 /// Makes a chain of bound 2 over three lists.
 fn make<W: Work>(board: &mut BoardCore<W>) -> Result<u64, BoardErr>
-    ensures { IfOk result (λ pipe. IsOpenFor has_line board.new pipe 0) }
+    ensures { IfOk result (λ pipe. IsOpenFor has_queue board.new pipe 0) }
 {
     pipelines_stay::<W::Ask>();
     let pipe = board.born_chain(0, 2, 3)?;
@@ -24,8 +24,8 @@ fn make<W: Work>(board: &mut BoardCore<W>) -> Result<u64, BoardErr>
 
 /// Passes a request on, if one may be.
 fn pass<W: Work>(board: &mut BoardCore<W>, pipe: u64) -> bool
-    requires { IsOpenFor has_line board.old pipe 0 }
-    ensures { IsOpenFor has_line board.new pipe 0 }
+    requires { IsOpenFor has_queue board.old pipe 0 }
+    ensures { IsOpenFor has_queue board.new pipe 0 }
 {
     pipelines_stay::<W::Ask>();
     board.pass_on(1)
@@ -33,8 +33,8 @@ fn pass<W: Work>(board: &mut BoardCore<W>, pipe: u64) -> bool
 
 /// Worker 2 takes a job, worker 3 does the next, and only then worker 2 finishes its own.
 fn work_around<W: Work>(board: &mut BoardCore<W>, pipe: u64)
-    requires { IsOpenFor has_line board.old pipe 0 }
-    ensures open { IsOpenFor has_line board.new pipe 0 }
+    requires { IsOpenFor has_queue board.old pipe 0 }
+    ensures open { IsOpenFor has_queue board.new pipe 0 }
     ensures first { (p n : ℕ) (out : W.Out) → MayFinish W.meaning (entries_of p board.old) 1 n out → MayFinish W.meaning (entries_of p board.new) 1 n out }
 {
     pipelines_stay::<W::Ask>();
@@ -52,8 +52,8 @@ fn work_backwards<W: Work>(
     pipe: u64,
     into: &mut Callbacks<W::Out>,
 ) -> Result<(), BoardErr>
-    requires { IsOpenFor has_line board.old pipe 0 }
-    ensures { IsOpenFor has_line board.new pipe 0 }
+    requires { IsOpenFor has_queue board.old pipe 0 }
+    ensures { IsOpenFor has_queue board.new pipe 0 }
 {
     pipelines_stay::<W::Ask>();
     let Some(Taken { slip, job }) = board.take(1) else {
@@ -70,9 +70,9 @@ fn work_backwards<W: Work>(
 struct Chains;
 
 impl Shaped for Chains {
-    ghost use Rattle.board.specs.Shapes.{has_line};
+    ghost use Rattle.board.specs.Shapes.{has_queue};
 
-    ghost such = { has_line };
+    ghost such = { has_queue };
 
     /// `p` is a passing on, `!` three workers that end in the other order, and any other a step on a queue.
     fn step(
@@ -94,7 +94,7 @@ impl Shaped for Chains {
 
 /// Makes the chain of a test.
 fn open_chain(rt: &impl Abort, board: &mut BoardCore<Echo>) -> u64
-    ensures { IsOpenFor has_line board.new result 0 }
+    ensures { IsOpenFor has_queue board.new result 0 }
 {
     make(board).expect(rt, "memory")
 }

@@ -3,7 +3,7 @@
 ghost use Rattle.std.specs.Prelude.{IfOk};
 ghost use Rattle.board.specs.Legal.{IsNoWorker};
 ghost use Rattle.board.specs.Shapes.{is_pad};
-ghost use Rattle.board.specs.Staying.{IsOpenFor};
+ghost use Rattle.board.specs.PipelineHistory.{IsOpenFor};
 
 use crate::echo::{Echo, Letter, Said, new_board, saying, yes_or_no};
 use crate::shapes::{Shaped, drain, play, step_any, work};

@@ -2,8 +2,8 @@
 
 ghost use Rattle.std.specs.Prelude.{◌≤◌, IfOk};
 ghost use Rattle.board.specs.Legal.{IsNoWorker};
-ghost use Rattle.board.specs.Shapes.{has_line};
-ghost use Rattle.board.specs.Staying.{IsOpenFor};
+ghost use Rattle.board.specs.Shapes.{has_queue};
+ghost use Rattle.board.specs.PipelineHistory.{IsOpenFor};
 
 use crate::echo::{Echo, Said, new_board, saying, yes_or_no};
 use crate::shapes::{Shaped, play, step_any, work};
@@ -16,7 +16,7 @@ use std::process::Abort;
 fn make<W: Work>(board: &mut BoardCore<W>, caller: u32, max: u32) -> Result<u64, BoardErr>
     requires caller { IsNoWorker caller }
     requires max { 1 ≤ max }
-    ensures { IfOk result (λ pipe. IsOpenFor has_line board.new pipe caller) }
+    ensures { IfOk result (λ pipe. IsOpenFor has_queue board.new pipe caller) }
 {
     pipelines_stay::<W::Ask>();
     let pipe = board.born_queue(caller, max)?;
@@ -31,8 +31,8 @@ pub(crate) fn offer<W: Work>(
     job: W,
     backlog: bool,
 ) -> Result<Entered, BoardErr>
-    requires { IsOpenFor has_line board.old pipe caller }
-    ensures { IsOpenFor has_line board.new pipe caller }
+    requires { IsOpenFor has_queue board.old pipe caller }
+    ensures { IsOpenFor has_queue board.new pipe caller }
 {
     pipelines_stay::<W::Ask>();
     let answer = board.enqueue(caller, pipe, job, backlog)?;
@@ -41,8 +41,8 @@ pub(crate) fn offer<W: Work>(
 
 /// Holds the queue.
 pub(crate) fn hold<W: Work>(board: &mut BoardCore<W>, pipe: u64) -> Result<(), BoardErr>
-    requires { IsOpenFor has_line board.old pipe 0 }
-    ensures { IsOpenFor has_line board.new pipe 0 }
+    requires { IsOpenFor has_queue board.old pipe 0 }
+    ensures { IsOpenFor has_queue board.new pipe 0 }
 {
     pipelines_stay::<W::Ask>();
     board.hold(0, pipe)
@@ -50,8 +50,8 @@ pub(crate) fn hold<W: Work>(board: &mut BoardCore<W>, pipe: u64) -> Result<(), B
 
 /// Lets the queue go.
 pub(crate) fn go<W: Work>(board: &mut BoardCore<W>, pipe: u64) -> Result<(), BoardErr>
-    requires { IsOpenFor has_line board.old pipe 0 }
-    ensures { IsOpenFor has_line board.new pipe 0 }
+    requires { IsOpenFor has_queue board.old pipe 0 }
+    ensures { IsOpenFor has_queue board.new pipe 0 }
 {
     pipelines_stay::<W::Ask>();
     board.go(0, pipe)
@@ -59,8 +59,8 @@ pub(crate) fn go<W: Work>(board: &mut BoardCore<W>, pipe: u64) -> Result<(), Boa
 
 /// One worker takes a job, and another looks for one before it is finished. Answers whether the other found one.
 fn serve_twice<W: Work>(board: &mut BoardCore<W>, pipe: u64) -> bool
-    requires { IsOpenFor has_line board.old pipe 0 }
-    ensures { IsOpenFor has_line board.new pipe 0 }
+    requires { IsOpenFor has_queue board.old pipe 0 }
+    ensures { IsOpenFor has_queue board.new pipe 0 }
 {
     pipelines_stay::<W::Ask>();
     let Some(first) = board.take(1) else {
@@ -77,9 +77,9 @@ fn serve_twice<W: Work>(board: &mut BoardCore<W>, pipe: u64) -> bool
 pub(crate) struct Lines;
 
 impl Shaped for Lines {
-    ghost use Rattle.board.specs.Shapes.{has_line};
+    ghost use Rattle.board.specs.Shapes.{has_queue};
 
-    ghost such = { has_line };
+    ghost such = { has_queue };
 
     /// `!` is two workers that serve at once, `h` a hold, `g` a go, a small letter else a request, and a great one a
     /// request that may wait in the backlog.
@@ -112,7 +112,7 @@ impl Shaped for Lines {
 /// Makes the queue of a test.
 fn open_queue(rt: &impl Abort, board: &mut BoardCore<Echo>, max: u32) -> u64
     requires { 1 ≤ max }
-    ensures { IsOpenFor has_line board.new result 0 }
+    ensures { IsOpenFor has_queue board.new result 0 }
 {
     make(board, 0, max).expect(rt, "memory")
 }
@@ -169,7 +169,7 @@ fn are_limited(
     pipe: u64,
     table: &[(u64, bool, Result<Entered, BoardErr>)],
 ) -> bool
-    requires { IsOpenFor has_line board.old pipe 0 }
+    requires { IsOpenFor has_queue board.old pipe 0 }
 {
     for (bytes, backlog, want) in table {
         if offer(board, 0, pipe, saying('a', *bytes), *backlog) != *want {

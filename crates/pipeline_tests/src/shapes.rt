@@ -3,7 +3,7 @@
 ghost use Rattle.std.specs.Prelude.{◌≢◌, ℕ};
 ghost use Rattle.board.specs.Entries.{entries_of};
 ghost use Rattle.board.specs.Legal.{MayFinish};
-ghost use Rattle.board.specs.Staying.{IsOpenFor};
+ghost use Rattle.board.specs.PipelineHistory.{IsOpenFor};
 
 use crate::echo::{Echo, Said, written, yes_or_no};
 use board::{BoardCore, BoardErr, Taken, Work, pipelines_stay, slips_stay};
@@ -15,7 +15,7 @@ use std::process::Abort;
 pub(crate) trait Shaped {
     ghost use Rattle.std.specs.Prelude.{Bool};
     ghost use Rattle.board.specs.declared.entry.Shape.{Shape};
-    ghost use Rattle.board.specs.Staying.{IsOpenFor};
+    ghost use Rattle.board.specs.PipelineHistory.{IsOpenFor};
 
     /// Which pipelines have it.
     ghost such: { Shape → Bool };

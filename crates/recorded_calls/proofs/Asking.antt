@@ -23,19 +23,19 @@ use Rattle.alg_registry.specs.declared.entry.Looked.{Looked}
 use Rattle.atomic_table.specs.Seated.{TableId}
 use Rattle.templates.specs.declared.build_errors.BuildErr.{BuildErr}
 use Rattle.templates.specs.declared.build_errors.BuildErr.TheVariants as build
-use Rattle.templates.specs.Looking.{Found, Entry, Fault, found_in, found_as, entry_found, is_asked}
-use Rattle.turn_lock.specs.Meeting.{Meets, AtTurn, GoesOn, Enters, Leaves, IsOwn}
+use Rattle.templates.specs.LookResults.{Found, Entry, Fault, found_in, found_as, entry_found, is_asked}
+use Rattle.turn_lock.specs.PassLaws.{Meets, AtTurn, GoesOn, Enters, Leaves, IsOwn}
 use Rattle.turn_lock.specs.Passes.{knows}
 use Rattle.turn_lock.specs.Turns.{Known, of}
-use Rattle.turn_lock.specs.Going.{own_entered, own_left, own_goes}
-use Rattle.shared_registry.specs.Building.{LooksFor, Looks as LooksUp, Works, Resolved, is_building}
+use Rattle.turn_lock.specs.TurnLaws.{own_entered, own_left, own_goes}
+use Rattle.shared_registry.specs.Builds.{LooksFor, Looks as LooksUp, Works, Resolved, is_building}
 use Rattle.shared_registry.specs.Faithful.{IsFaithful}
 use Rattle.dialogues.specs.First.{AreFurther}
 use Rattle.dialogues.specs.GoingOn.{RegisteredStays, RegistryCallsGoOn}
 use Rattle.dialogues.specs.InTurn.{AreInTurn}
 use Rattle.dialogues.specs.RegistryCalls.{RegCall, Enlists, Looks, Unlists, Gets, Puts, Counts, Lists, reg_call_of, reg_calls, reg_calls_from, prepend, is_settled, if_own, AllSettled}
 use Rattle.recorded_calls.specs.Passes.{RegPass, known, lock_of}
-use Rattle.recorded_calls.specs.Asking.{CallLaws, IsCaller, Asked, Asks, Finds, SeesCalls, SeesLook, IsResolved, enlisted_as, unlisted_as, got_as, counted_as, listed_as}
+use Rattle.recorded_calls.specs.RegistryCalls.{CallLaws, IsCaller, Asked, Asks, Finds, SeesCalls, SeesLook, IsResolved, enlisted_as, unlisted_as, got_as, counted_as, listed_as}
 
 -- ---- entries of others are no calls
 

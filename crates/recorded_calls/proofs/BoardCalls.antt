@@ -17,10 +17,10 @@ use Rattle.board.specs.declared.entry.Shape.TheVariants.{Pad, Queue, Chain}
 use Rattle.board.specs.Entries.{caller_of, is_close, is_closed, is_held, mask, birth, accepted_in, entries_of, submissions, front, told, delivered}
 use Rattle.board.specs.Allowance.{IsAllowed}
 use Rattle.board.specs.Legal.{IsNoWorker, IsOpen, IsOpenPad, IsOpenAs, LegalBoard, pipelines}
-use Rattle.board.specs.Handing.{is_collect, completions}
+use Rattle.board.specs.HandedOut.{is_collect, completions}
 use Rattle.std.proofs.lemmas.Bool.{eqb-true}
 use Rattle.std.proofs.lemmas.List.Folds.{list_any-append}
-use Rattle.board.specs.Staying.{IsDrained}
+use Rattle.board.specs.PipelineHistory.{IsDrained}
 use Rattle.board.specs.Allowance.{accepted_by}
 use Rattle.std.proofs.lemmas.List.{length-map}
 use Rattle.std.specs.Option.{option_map}
@@ -29,9 +29,9 @@ use Rattle.transforms.specs.declared.ask.Ask.{Ask}
 use Rattle.transforms.specs.declared.request.Finished.{Finished}
 use Rattle.transforms.specs.AskValue.{ask_size}
 use Rattle.turn_lock.specs.Turns.{Known, sees}
-use Rattle.turn_lock.specs.Meeting.{AtTurn, Enters, Leaves, IsOwn}
-use Rattle.turn_lock.specs.Going.{still_kept, own_entered}
-use Rattle.crew.specs.Working.{Worked, Drained as CrewDrained}
+use Rattle.turn_lock.specs.PassLaws.{AtTurn, Enters, Leaves, IsOwn}
+use Rattle.turn_lock.specs.TurnLaws.{still_kept, own_entered}
+use Rattle.crew.specs.BoardWork.{Worked, Drained as CrewDrained}
 use Rattle.dialogues.specs.RegistryCalls.{if_own}
 use Rattle.reply_text.specs.declared.origin.Origin.{Origin}
 use Rattle.dialogues.specs.BoardCalls.{BoardCall, Creates, Submits, Enqueues, Holds, Goes, Collects, Closes, Masks, Shuts, Started, Completed, asked_by, outcome, board_calls, notice_of, origin_in, origin_of, collected_to}
@@ -39,7 +39,7 @@ use Rattle.dialogues.specs.ScriptState.{PipelineState}
 use Rattle.recorded_calls.specs.Bounds.{AreWithin}
 use Rattle.recorded_calls.specs.Pipelines.{Laws, IsPipeIn, origin_at, made_so, KnowsPipe, Unchanged, Changed, Closed, IsPad, IsQueue, entered_pipe, entered_asks, with_ask, notice_by, IsShut, Owns, Drained, Polled, Opened}
 use Rattle.recorded_calls.proofs.HandedOut.{hands-within}
-use Rattle.dialogues.specs.Allocating.{new_pipe}
+use Rattle.dialogues.specs.AllocAndFree.{new_pipe}
 use Rattle.board.specs.declared.entry.Entered.{Entered}
 use Rattle.board.specs.declared.entry.Entered.TheVariants.{InProgress, Busy, NoSpace}
 use Rattle.board.proofs.Lists.{length-numbers}

@@ -10,15 +10,15 @@ use Rattle.board.specs.declared.entry.BoardEntry.TheVariants as event
 use Rattle.board.specs.declared.entry.Shape.{Shape}
 use Rattle.board.specs.Entries.{is_of, entries_of, accepted_in, birth_in, birth, first, submissions, held_in, masked_in, mask, is_close, is_closed, is_share, is_shared, delivered, caller_of, maker_is}
 use Rattle.board.specs.Allowance.{accepted_by, accepted_from}
-use Rattle.board.specs.Staying.{is_work}
+use Rattle.board.specs.PipelineHistory.{is_work}
 use Rattle.board.specs.Legal.{IsOpenAs, MayManage, LegalBoard, is_shut, is_shut_entry}
 use Rattle.board.specs.Order.{handed_out, completed}
-use Rattle.board.specs.Handing.{is_collect, completions}
+use Rattle.board.specs.HandedOut.{is_collect, completions}
 use Rattle.std.specs.List.{cons_option, filter_map, list_all}
 use Rattle.transforms.specs.declared.ask.Ask.{Ask}
 use Rattle.turn_lock.specs.Turns.{Known, StartsWith, sees, adds, of}
-use Rattle.turn_lock.specs.Meeting.{Meets, GoesOn, Enters, Leaves}
-use Rattle.turn_lock.specs.Going.{goes_left}
+use Rattle.turn_lock.specs.PassLaws.{Meets, GoesOn, Enters, Leaves}
+use Rattle.turn_lock.specs.TurnLaws.{goes_left}
 use Rattle.dialogues.specs.RegistryCalls.{prepend}
 use Rattle.dialogues.specs.BoardCalls.{BoardCall, origin_of, outcome, is_called, board_call_of, board_calls}
 use Rattle.dialogues.specs.ScriptState.{PipelineState}

@@ -15,23 +15,23 @@ use Rattle.board.specs.declared.entry.BoardEntry.{BoardEntry}
 use Rattle.board.specs.declared.entry.BoardEntry.TheVariants as event
 use Rattle.board.specs.Alone.{PeersGone}
 use Rattle.board.specs.Entries.{is_of, entries_of, submissions, front, told, delivered, caller_of}
-use Rattle.board.specs.Handing.{completions}
+use Rattle.board.specs.HandedOut.{completions}
 use Rattle.board.specs.Legal.{LegalBoard, is_shut_entry}
 use Rattle.board.specs.Order.{HandsOutInOrder, completed, numbers_below}
-use Rattle.board.specs.Staying.{is_work}
+use Rattle.board.specs.PipelineHistory.{is_work}
 use Rattle.board.proofs.Lists.{length-numbers}
-use Rattle.crew.specs.Working.{Worked, Drained as CrewDrained}
+use Rattle.crew.specs.BoardWork.{Worked, Drained as CrewDrained}
 use Rattle.transforms.specs.declared.ask.Ask.{Ask}
 use Rattle.transforms.specs.declared.request.Finished.{Finished}
 use Rattle.turn_lock.specs.Turns.{Known, Has, sees, adds, of}
-use Rattle.turn_lock.specs.Meeting.{AtTurn, Enters, Leaves, IsOwn}
-use Rattle.turn_lock.specs.Going.{still_kept}
+use Rattle.turn_lock.specs.PassLaws.{AtTurn, Enters, Leaves, IsOwn}
+use Rattle.turn_lock.specs.TurnLaws.{still_kept}
 use Rattle.reply_text.specs.declared.origin.Origin.{Origin}
 use Rattle.dialogues.specs.RegistryCalls.{if_own}
 use Rattle.dialogues.specs.BoardCalls.{BoardCall, Goes, Collects, outcome, origin_of, collected_to, board_call_of}
 use Rattle.dialogues.specs.ScriptState.{PipelineState}
 use Rattle.recorded_calls.specs.Pipelines.{Laws, made_so, notice_by, Unchanged}
-use Rattle.recorded_calls.specs.Sharing.{SharingLaws, IsLentIn, KnowsLent, IsGatheredIn, KnowsGathered, HaveEnded, Beside, Gathers, DrainedLent, GatheredHandsAll}
+use Rattle.recorded_calls.specs.SharedCalls.{SharingLaws, IsLentIn, KnowsLent, IsGatheredIn, KnowsGathered, HaveEnded, Beside, Gathers, DrainedLent, GatheredHandsAll}
 use Rattle.recorded_calls.proofs.Boarding.{Met, OwnsIn, called-more, calls-one, goes-kept, meets-kept, kept-more, apart-same, shared-more, asks-same}
 use Rattle.recorded_calls.proofs.BoardCalls.{notices-are}
 use Rattle.recorded_calls.proofs.Lendings.{lent-works, lent-at}

@@ -12,16 +12,16 @@ use Rattle.board.specs.Entries.{is_of, entries_of, caller_of, is_closed, is_shar
 use Rattle.board.specs.Allowance.{accepted_by}
 use Rattle.board.specs.Legal.{MayManage, LegalBoard}
 use Rattle.board.specs.Order.{completed}
-use Rattle.board.specs.Staying.{is_work}
+use Rattle.board.specs.PipelineHistory.{is_work}
 use Rattle.transforms.specs.declared.ask.Ask.{Ask}
 use Rattle.turn_lock.specs.Turns.{Known, sees, adds, of}
-use Rattle.turn_lock.specs.Meeting.{AtTurn, GoesOn, Enters, Leaves, IsOwn}
-use Rattle.turn_lock.specs.Going.{none_after, starts_through}
+use Rattle.turn_lock.specs.PassLaws.{AtTurn, GoesOn, Enters, Leaves, IsOwn}
+use Rattle.turn_lock.specs.TurnLaws.{none_after, starts_through}
 use Rattle.dialogues.specs.RegistryCalls.{if_own}
 use Rattle.dialogues.specs.BoardCalls.{Shares}
 use Rattle.dialogues.specs.ScriptState.{PipelineState}
 use Rattle.recorded_calls.specs.Pipelines.{IsPipeIn, made_so, KnowsPipe, Unchanged}
-use Rattle.recorded_calls.specs.Sharing.{SharingLaws, IsSharedIn, IsLentIn, KnowsLent, Rejoined, Rejoins, Lends, LentIsShared}
+use Rattle.recorded_calls.specs.SharedCalls.{SharingLaws, IsSharedIn, IsLentIn, KnowsLent, Rejoined, Rejoins, Lends, LentIsShared}
 use Rattle.recorded_calls.proofs.Boarding.{Met, OwnsIn, goes-kept, called-more, calls-one, meets-kept, leaves-kept, accepted-none, apart-same}
 
 own : {C : Type 0} (n : ℕ) (call : C) → if_own n n call ≡ Some call

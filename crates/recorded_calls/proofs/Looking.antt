@@ -9,13 +9,13 @@ use Rattle.alg_registry.specs.Made.{outcome}
 use Rattle.alg_registry.specs.Rows.{registered, caller_of}
 use Rattle.templates.specs.declared.build_errors.BuildErr.{BuildErr}
 use Rattle.templates.specs.declared.build_errors.BuildErr.TheVariants as build
-use Rattle.templates.specs.Looking.{Entry, Fault, found_in}
-use Rattle.turn_lock.specs.Going.{goes_then}
-use Rattle.shared_registry.specs.Building.{Works, Settled}
+use Rattle.templates.specs.LookResults.{Entry, Fault, found_in}
+use Rattle.turn_lock.specs.TurnLaws.{goes_then}
+use Rattle.shared_registry.specs.Builds.{Works, Settled}
 use Rattle.shared_registry.specs.Faithful.{IsFaithful}
 use Rattle.dialogues.specs.GoingOn.{FoundStays}
-use Rattle.recorded_calls.specs.Asking.{SeesMore, IsResolved}
-use Rattle.recorded_calls.specs.Looking.{Goes, Settles}
+use Rattle.recorded_calls.specs.RegistryCalls.{SeesMore, IsResolved}
+use Rattle.recorded_calls.specs.Looks.{Goes, Settles}
 use Rattle.recorded_calls.specs.Passes.{RegPass, known, lock_of}
 use Rattle.recorded_calls.proofs.Asking.{found-registered}
 

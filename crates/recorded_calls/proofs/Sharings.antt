@@ -18,14 +18,14 @@ use Rattle.board.specs.Shapes.{is_born}
 use Rattle.transforms.specs.declared.ask.Ask.{Ask}
 use Rattle.transforms.specs.AskValue.{ask_size}
 use Rattle.turn_lock.specs.Turns.{Known, StartsWith, sees, adds, of}
-use Rattle.turn_lock.specs.Meeting.{AtTurn, Enters, Leaves}
+use Rattle.turn_lock.specs.PassLaws.{AtTurn, Enters, Leaves}
 use Rattle.dialogues.specs.RegistryCalls.{if_own}
 use Rattle.board.specs.declared.entry.Entered.{Entered}
 use Rattle.board.specs.declared.entry.Entered.TheVariants.{InProgress, Busy, NoSpace}
 use Rattle.dialogues.specs.BoardCalls.{BoardCall, Submits, Enqueues, asked_by, board_call_of}
 use Rattle.dialogues.specs.ScriptState.{PipelineState}
 use Rattle.recorded_calls.specs.Pipelines.{Laws, IsPipeIn, IsPad, made_so, Unchanged, entered_asks}
-use Rattle.recorded_calls.specs.Sharing.{SharingLaws, IsSharedIn, KnowsShared, Gave}
+use Rattle.recorded_calls.specs.SharedCalls.{SharingLaws, IsSharedIn, KnowsShared, Gave}
 use Rattle.recorded_calls.proofs.Boarding.{Met, OwnsIn, called-more, calls-one, meets-kept, leaves-kept, accepted-none, accepted-more, apart-same}
 
 own : {C : Type 0} (n : ℕ) (call : C) → if_own n n call ≡ Some call

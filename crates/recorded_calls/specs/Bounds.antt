@@ -12,7 +12,8 @@ abbrev pub callback_length : Callback Finished → ℕ
 callback_length (callback.Started number) = 0
 callback_length (callback.Done number finished) = finished_length finished
 
--- Of so many requests there is at most a start and a completion each, with at most 64 bytes more for each than these asks have.
+-- Of so many requests there is at most a start and a completion each, with at most 64 bytes more for each than these
+-- asks have.
 pub record AreWithin (requests : ℕ) (asks : List Ask) (callbacks : List (Callback Finished)) : Type 0 where
   pub few : length callbacks ≤ 2 * requests
   pub short : sum_by callback_length callbacks ≤ sum_by ask_size asks + 64 * requests

@@ -1,6 +1,6 @@
 pub mod Bounds
 pub mod Passes
-pub mod Asking
-pub mod Looking
+pub mod RegistryCalls
+pub mod Looks
 pub mod Pipelines
-pub mod Sharing
+pub mod SharedCalls

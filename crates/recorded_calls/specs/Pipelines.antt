@@ -9,21 +9,21 @@ use Rattle.board.specs.declared.entry.Shape.{Shape}
 use Rattle.board.specs.declared.entry.Entered.TheVariants.{InProgress, Busy, NoSpace}
 use Rattle.board.specs.Allowance.{accepted_by}
 use Rattle.board.specs.Entries.{entries_of, birth, submissions, is_held, is_shared, is_closed, mask, caller_of}
-use Rattle.board.specs.Following.{EndsRight, IsOfOne, LeaveInOrder, LeavesShared, LeavesSubmissions, LeavesShut}
-use Rattle.board.specs.Handing.{HandsNothing, CollectHandsOut, AllHandedOutIsDrained, completions}
+use Rattle.board.specs.NextEntry.{EndsRight, IsOfOne, LeaveInOrder, LeavesShared, LeavesSubmissions, LeavesShut}
+use Rattle.board.specs.HandedOut.{HandsNothing, CollectHandsOut, AllHandedOutIsDrained, completions}
 use Rattle.board.specs.Legal.{IsOpenAs, MayManage, LegalBoard, is_shut}
 use Rattle.board.specs.Order.{handed_out, completed, HandsOutAll, FrontIsAll, KeepsOrder}
-use Rattle.board.specs.Shapes.{is_pad, has_line}
-use Rattle.board.specs.Staying.{Joins, LeavesOthers, BeginsAlone, StaysOpen, StaysManaged, Holds as IsHeldSo, StaysHeld, Masks as IsMaskedSo, StaysMasked}
+use Rattle.board.specs.Shapes.{is_pad, has_queue}
+use Rattle.board.specs.PipelineHistory.{Joins, LeavesOthers, BeginsAlone, StaysOpen, StaysManaged, Holds as IsHeldSo, StaysHeld, Masks as IsMaskedSo, StaysMasked}
 use Rattle.reply_text.specs.declared.origin.Origin.{Origin}
 use Rattle.transforms.specs.AskValue.{ask_size}
 use Rattle.transforms.specs.Finish.{finished_length}
 use Rattle.transforms.specs.declared.ask.Ask.{Ask}
 use Rattle.transforms.specs.declared.request.Finished.{Finished}
 use Rattle.turn_lock.specs.Turns.{Known, StartsWith, sees}
-use Rattle.turn_lock.specs.Meeting.{IsOwn}
+use Rattle.turn_lock.specs.PassLaws.{IsOwn}
 use Rattle.board.specs.Others.{WorkLeavesKnown, WorkLeavesOwn}
-use Rattle.dialogues.specs.Allocating.{new_pipe}
+use Rattle.dialogues.specs.AllocAndFree.{new_pipe}
 use Rattle.dialogues.specs.BoardCalls.{BoardCall, Creates, Collects, Closes, Shuts, Notice, Started, Completed, board_calls, origin_of, outcome}
 use Rattle.dialogues.specs.GoingOn.{BoardCallsGoOn, BoardUncalled}
 use Rattle.dialogues.specs.ScriptState.{PipelineState}
@@ -52,7 +52,8 @@ pub record Steps : Type 0 where
   pub order : (h : List (BoardEntry Ask)) (p : ℕ) → KeepsOrder h p
   pub leave : (h : List (BoardEntry Ask)) (p : ℕ) → LeaveInOrder h p
 
--- what entries of others, and one's own work, leave as it was, what an entry of one's own does, and that values are short
+-- what entries of others, and one's own work, leave as it was, what an entry of one's own does, and that values are
+-- short
 pub record Laws : Type 0 where
   pub mine : (h es : List (BoardEntry Ask)) (p caller : ℕ) → WorkLeavesKnown h es p caller
   pub own : (h es : List (BoardEntry Ask)) (caller : ℕ) → WorkLeavesOwn h es caller
@@ -74,10 +75,10 @@ IsQueue (Some max) = ⊤
 -- a pad, or a pipeline with a line in front: that one has a bound
 abbrev pub made_so : Option ℕ → Shape → Bool
 made_so None = is_pad
-made_so (Some max) = has_line
+made_so (Some max) = has_queue
 
--- The pipeline of which this caller is the maker, as the entries of its number have it. A pad has no worker exactly where its mask is
--- empty, and only what has a line is held.
+-- The pipeline of which this caller is the maker, as the entries of its number have it. A pad has no worker exactly
+-- where its mask is empty, and only what has a line is held.
 pub record IsPipeIn (caller : ℕ) (es : List (BoardEntry Ask)) (pipe : PipelineState) : Type 0 where
   pub opened : IsOpenAs (made_so pipe.bound) es
   pub managed : MayManage es caller

@@ -6,7 +6,7 @@ ghost use Rattle.kc_base.specs.declared.callback_list.Callback.{Callback as Told
 ghost use Rattle.board.specs.Allowance.{IsAllowed, accepted_by};
 ghost use Rattle.board.specs.Alone.{PeersGone};
 ghost use Rattle.board.specs.Entries.{entries_of, birth};
-ghost use Rattle.board.specs.Handing.{completions};
+ghost use Rattle.board.specs.HandedOut.{completions};
 ghost use Rattle.board.specs.Legal.{IsNoWorker, LegalBoard, is_shut};
 ghost use Rattle.board.specs.declared.board_core.BoardErr.TheVariants as BoardErr;
 ghost use Rattle.board.specs.declared.entry.Shape.TheVariants.{Pad as PadOf, Queue as QueueOf, Chain as ChainOf};
@@ -18,7 +18,7 @@ ghost use Rattle.dialogues.specs.ScriptState.{PipelineState as KnownPipe};
 ghost use Rattle.recorded_calls.specs.Bounds.{AreWithin};
 ghost use Rattle.recorded_calls.specs.Passes.{CallsBoard, known, lock_of};
 ghost use Rattle.recorded_calls.specs.Pipelines.{Laws, Steps, IsPad, IsQueue, KnowsPipe, Unchanged, Changed, Closed, IsShut, Opened, with_ask, entered_pipe, entered_asks, Drained, Polled};
-ghost use Rattle.recorded_calls.specs.Sharing.{KnowsGathered};
+ghost use Rattle.recorded_calls.specs.SharedCalls.{KnowsGathered};
 
 use crate::pipe::PipelineView;
 use crate::shared_calls::sharing_laws;
@@ -126,8 +126,8 @@ impl BoardCaller {
         answer
     }
 
-    /// Makes a queue in which so many requests may wait before it is full, at least 1, and answers its number. Only want of
-    /// memory refuses.
+    /// Makes a queue in which so many requests may wait before it is full, at least 1, and answers its number. Only
+    /// want of memory refuses.
     pub fn born_queue<R: Wait>(
         &mut self,
         rt: &R,
@@ -149,8 +149,8 @@ impl BoardCaller {
         answer
     }
 
-    /// Makes a chain, and answers its number: a queue in which so many requests may wait before it is full, at least 1, and a pad of
-    /// `lists` reorder lists, 1 to 16, to which they go on. Only want of memory refuses.
+    /// Makes a chain, and answers its number: a queue in which so many requests may wait before it is full, at least 1,
+    /// and a pad of `lists` reorder lists, 1 to 16, to which they go on. Only want of memory refuses.
     pub fn born_chain<R: Wait>(
         &mut self,
         rt: &R,
@@ -175,9 +175,9 @@ impl BoardCaller {
         answer
     }
 
-    /// Hands a job in to a pad of the caller's, from which some worker may take, and answers its number. `TooBig` exactly where
-    /// the caller's allowance has no room for the job, otherwise `Memory`; `NoWorker` never. An error drops the job, and leaves
-    /// the caller's pipelines as they were.
+    /// Hands a job in to a pad of the caller's, from which some worker may take, and answers its number. `TooBig`
+    /// exactly where the caller's allowance has no room for the job, otherwise `Memory`; `NoWorker` never. An error
+    /// drops the job, and leaves the caller's pipelines as they were.
     pub fn submit<R: Wait>(
         &mut self,
         rt: &R,
@@ -206,9 +206,9 @@ impl BoardCaller {
         answer
     }
 
-    /// Hands a job in to a queue or a chain of the caller's, and answers its verdict. `TooBig` exactly where the caller's allowance
-    /// has no room for the job, otherwise `Memory`; `NoWorker` never. An error drops the job, and leaves the caller's pipelines as
-    /// they were.
+    /// Hands a job in to a queue or a chain of the caller's, and answers its verdict. `TooBig` exactly where the
+    /// caller's allowance has no room for the job, otherwise `Memory`; `NoWorker` never. An error drops the job, and
+    /// leaves the caller's pipelines as they were.
     pub fn enqueue<R: Wait>(
         &mut self,
         rt: &R,
@@ -251,8 +251,8 @@ impl BoardCaller {
         self.pass = Some(board.close(rt, pass, pipe.number));
     }
 
-    /// From now on the workers whose bits are set may take from a pad of the caller's, bit i for worker i + 1; no bit stands at or
-    /// above the number of lists that it was made with. Only want of memory refuses.
+    /// From now on the workers whose bits are set may take from a pad of the caller's, bit i for worker i + 1; no bit
+    /// stands at or above the number of lists that it was made with. Only want of memory refuses.
     pub fn mask<R: Wait>(
         &mut self,
         rt: &R,
@@ -277,8 +277,8 @@ impl BoardCaller {
         answer
     }
 
-    /// From now on no request of a queue of the caller's is begun, and none of a chain goes on; what was begun, or has gone on, is
-    /// done. Only want of memory refuses.
+    /// From now on no request of a queue of the caller's is begun, and none of a chain goes on; what was begun, or has
+    /// gone on, is done. Only want of memory refuses.
     pub fn hold<R: Wait>(
         &mut self,
         rt: &R,
@@ -322,9 +322,9 @@ impl BoardCaller {
         answer
     }
 
-    /// Hands out what a pipeline of the caller's has told and no call handed out before: at most a start and a completion of
-    /// each of its requests, with at most 64 bytes more for each than was asked. Only want of memory refuses, and hands
-    /// out nothing.
+    /// Hands out what a pipeline of the caller's has told and no call handed out before: at most a start and a
+    /// completion of each of its requests, with at most 64 bytes more for each than was asked. Only want of memory
+    /// refuses, and hands out nothing.
     pub fn poll<R: Wait>(
         &mut self,
         rt: &R,
@@ -348,8 +348,8 @@ impl BoardCaller {
         answer
     }
 
-    /// Does what jobs there are until each of a pipeline of the caller's is done, and hands out what no call handed out before, as
-    /// `poll` does: with it all is handed out. Only want of memory refuses, and hands out
+    /// Does what jobs there are until each of a pipeline of the caller's is done, and hands out what no call handed out
+    /// before, as `poll` does: with it all is handed out. Only want of memory refuses, and hands out
     /// nothing.
     pub fn drain<R: Wait, G: Gate>(
         &mut self,
@@ -377,8 +377,8 @@ impl BoardCaller {
         answer
     }
 
-    /// Shuts the board, which isn't shut yet, by the caller with the number 0. No memory is taken. What it knows of pipelines that it
-    /// shares stays, where workers alone are left beside it.
+    /// Shuts the board, which isn't shut yet, by the caller with the number 0. No memory is taken. What it knows of
+    /// pipelines that it shares stays, where workers alone are left beside it.
     pub fn shut<R: Wait>(&mut self, rt: &R, board: &SharedBoard<Job>)
         requires at { CallsBoard board.now self.old }
         requires first { (known self.old).number ≡ 0 }

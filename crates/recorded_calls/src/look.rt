@@ -15,7 +15,7 @@ impl Model for Look {
     ghost use Rattle.std.specs.Prelude.{◌≡◌, true};
     ghost use Rattle.alg_names.specs.Name.{spelling};
     ghost use Rattle.templates.specs.Nesting.{is_nested_well};
-    ghost use Rattle.recorded_calls.specs.Looking.{Sought};
+    ghost use Rattle.recorded_calls.specs.Looks.{Sought};
 
     ghost Value = { Sought };
 

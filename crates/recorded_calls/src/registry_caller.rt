@@ -8,12 +8,12 @@ ghost use Rattle.alg_registry.specs.Rows.{registered};
 ghost use Rattle.alg_names.specs.Name.{spelling};
 ghost use Rattle.templates.specs.Nesting.{is_nested_well};
 ghost use Rattle.templates.specs.Table.{table};
-ghost use Rattle.shared_registry.specs.Building.{WasAnswered};
+ghost use Rattle.shared_registry.specs.Builds.{WasAnswered};
 ghost use Rattle.shared_registry.specs.Passes.{IsSound};
 ghost use Rattle.dialogues.specs.RegistryCalls.{Enlists, Unlists, Gets, Puts, Counts, Lists};
 ghost use Rattle.recorded_calls.specs.Passes.{CallsRegistry, known};
-ghost use Rattle.recorded_calls.specs.Asking.{CallLaws, IsCaller, HasReferenceOf, Asks, Finds, SeesLook, IsResolved, enlisted_as, unlisted_as, got_as, counted_as, listed_as};
-ghost use Rattle.recorded_calls.specs.Looking.{Goes, Builds, look_entry, Settles};
+ghost use Rattle.recorded_calls.specs.RegistryCalls.{CallLaws, IsCaller, HasReferenceOf, Asks, Finds, SeesLook, IsResolved, enlisted_as, unlisted_as, got_as, counted_as, listed_as};
+ghost use Rattle.recorded_calls.specs.Looks.{Goes, Builds, look_entry, Settles};
 
 use crate::look::Look;
 use crate::stop::Stop;
@@ -166,9 +166,9 @@ impl RegistryCaller {
         self.pass.take().unwrap()
     }
 
-    /// Lists a driver of the table that stands on no other, and answers its id. `Exist` comes where its driver equals the name or
-    /// the driver of a listed entry, or its name the driver of one; otherwise `NFile` where 4,096 entries are held. Both are
-    /// recorded. Only want of memory stops it, and then nothing is recorded.
+    /// Lists a driver of the table that stands on no other, and answers its id. `Exist` comes where its driver equals
+    /// the name or the driver of a listed entry, or its name the driver of one; otherwise `NFile` where 4,096 entries
+    /// are held. Both are recorded. Only want of memory stops it, and then nothing is recorded.
     pub fn enlist<R: Wait>(
         &mut self,
         rt: &R,
@@ -189,8 +189,8 @@ impl RegistryCaller {
         enlisted(answer)
     }
 
-    /// Takes the entry of a driver off the list, and with it what stands on it, and says whether it was there. Only want of memory
-    /// stops it, and then nothing is recorded.
+    /// Takes the entry of a driver off the list, and with it what stands on it, and says whether it was there. Only
+    /// want of memory stops it, and then nothing is recorded.
     pub fn unlist<R: Wait>(
         &mut self,
         rt: &R,
@@ -210,8 +210,8 @@ impl RegistryCaller {
         unlisted(answer)
     }
 
-    /// Takes a reference of an entry where it is still listed, and says whether it was. Only want of memory stops it, and then
-    /// nothing is recorded.
+    /// Takes a reference of an entry where it is still listed, and says whether it was. Only want of memory stops it,
+    /// and then nothing is recorded.
     pub fn take_ref<R: Wait>(
         &mut self,
         rt: &R,
@@ -242,8 +242,8 @@ impl RegistryCaller {
         self.pass = Some(registry.put_ref(rt, pass, id));
     }
 
-    /// The references of the newest held entry of the driver, if there is one. Only want of memory stops it, and then nothing
-    /// is recorded.
+    /// The references of the newest held entry of the driver, if there is one. Only want of memory stops it, and then
+    /// nothing is recorded.
     pub fn refs<R: Wait>(
         &mut self,
         rt: &R,
@@ -274,9 +274,9 @@ impl RegistryCaller {
         listed(answer)
     }
 
-    /// Looks a name up, builds what is missing or waits for who builds it, and answers the id of the entry. An errno is what the
-    /// look comes to where it comes to no entry. Only want of memory stops it: then the look alone may have been recorded, which may
-    /// have come to nothing.
+    /// Looks a name up, builds what is missing or waits for who builds it, and answers the id of the entry. An errno is
+    /// what the look comes to where it comes to no entry. Only want of memory stops it: then the look alone may have
+    /// been recorded, which may have come to nothing.
     pub fn resolve<R: Wait>(
         &mut self,
         rt: &R,
@@ -298,7 +298,8 @@ impl RegistryCaller {
         found(answer)
     }
 
-    /// A copy of an entry that the caller has seen, as it came to be. Nothing is recorded. Only want of memory stops it.
+    /// A copy of an entry that the caller has seen, as it came to be. Nothing is recorded. Only want of memory stops
+    /// it.
     pub fn origin<R: Wait>(
         &mut self,
         rt: &R,
@@ -320,7 +321,8 @@ impl RegistryCaller {
         origin_of(answer)
     }
 
-    /// Looks a name up, and leaves what it comes to for `settle`. Only want of memory stops it, and then nothing is recorded.
+    /// Looks a name up, and leaves what it comes to for `settle`. Only want of memory stops it, and then nothing is
+    /// recorded.
     pub fn look<R: Wait>(
         &mut self,
         rt: &R,
@@ -360,8 +362,8 @@ impl RegistryCaller {
         origin_of(answer)
     }
 
-    /// What a look of the caller's comes to: a copy of the entry as it came to be, or an errno. What is missing is built, or
-    /// waited for where others build it. Only want of memory stops it, and then no further look was made.
+    /// What a look of the caller's comes to: a copy of the entry as it came to be, or an errno. What is missing is
+    /// built, or waited for where others build it. Only want of memory stops it, and then no further look was made.
     pub fn settle<R: Wait>(
         &mut self,
         rt: &R,

@@ -8,9 +8,9 @@ ghost use Rattle.board.specs.declared.entry.BoardEntry.{BoardEntry};
 ghost use Rattle.board.specs.Allowance.{IsAllowed};
 ghost use Rattle.board.specs.Alone.{PeersGone};
 ghost use Rattle.board.specs.Entries.{caller_of};
-ghost use Rattle.board.specs.Handing.{completions};
+ghost use Rattle.board.specs.HandedOut.{completions};
 ghost use Rattle.board.specs.Legal.{LegalBoard};
-ghost use Rattle.turn_lock.specs.Meeting.{AtTurn, Leaves, IsOwn};
+ghost use Rattle.turn_lock.specs.PassLaws.{AtTurn, Leaves, IsOwn};
 ghost use Rattle.turn_lock.specs.Passes.{knows};
 ghost use Rattle.turn_lock.specs.Turns.{Known, gives_number, gets_number, joined, StartsWith};
 ghost use Rattle.transforms.specs.AskValue.{ask_size};
@@ -21,7 +21,7 @@ ghost use Rattle.dialogues.specs.ScriptState.{PipelineState as KnownPipe};
 ghost use Rattle.shared_board.specs.Passes.{IsPassOn};
 ghost use Rattle.recorded_calls.specs.Passes.{CallsBoard, known, lock_of};
 ghost use Rattle.recorded_calls.specs.Pipelines.{IsPad, IsQueue, KnowsPipe, Unchanged, entered_asks};
-ghost use Rattle.recorded_calls.specs.Sharing.{SharingLaws, KnowsShared, Gave, KnowsLent, Lends, KnowsGathered, Rejoined, HaveEnded, Rejoins, Beside, Gathers, DrainedLent, SharedStaysKnown, LentIsShared, GatheredHandsAll};
+ghost use Rattle.recorded_calls.specs.SharedCalls.{SharingLaws, KnowsShared, Gave, KnowsLent, Lends, KnowsGathered, Rejoined, HaveEnded, Rejoins, Beside, Gathers, DrainedLent, SharedStaysKnown, LentIsShared, GatheredHandsAll};
 
 use crate::board_caller::{BoardCaller, board_laws};
 use crate::pipe::{PipelineView, RequestLines};
@@ -56,8 +56,8 @@ pub fn shared_is_known()
     sharing_laws();
 }
 
-/// A pipeline that the caller shares, and that has handed out as many completions as it accepted requests, has handed out those of
-/// all, in order, each once.
+/// A pipeline that the caller shares, and that has handed out as many completions as it accepted requests, has handed
+/// out those of all, in order, each once.
 pub fn gathered_hand_out_all()
     ensures { (k : Known (BoardEntry Asked)) (pipe : KnownPipe) → GatheredHandsAll k pipe }
 {
@@ -206,8 +206,8 @@ impl BoardCaller {
         self.pass = Some(board.join(pass, other));
     }
 
-    /// Takes a turn at which nothing is done: the caller has then seen all that happened. Where others were joined into its pass, it
-    /// knows again what it knew before (`again`), and that they have ended (`gone`).
+    /// Takes a turn at which nothing is done: the caller has then seen all that happened. Where others were joined into
+    /// its pass, it knows again what it knew before (`again`), and that they have ended (`gone`).
     pub fn meet<R: Wait>(&mut self, rt: &R, board: &SharedBoard<Job>)
         requires at { CallsBoard board.now self.old }
         ensures lock { lock_of self.new ≡ lock_of self.old }
@@ -224,8 +224,8 @@ impl BoardCaller {
         self.pass = Some(pass);
     }
 
-    /// Learns what a pipeline accepted that the caller shares, once all others have ended but the workers: whose lines its requests
-    /// are. Only want of memory refuses, and leaves the pipeline as the caller knew it.
+    /// Learns what a pipeline accepted that the caller shares, once all others have ended but the workers: whose lines
+    /// its requests are. Only want of memory refuses, and leaves the pipeline as the caller knew it.
     pub fn gather<R: Wait>(
         &mut self,
         rt: &R,
@@ -251,8 +251,8 @@ impl BoardCaller {
         Ok(())
     }
 
-    /// The requests of a queue that the caller shares are run again, and those of a chain go on, once all others have ended but the
-    /// workers. Only want of memory refuses.
+    /// The requests of a queue that the caller shares are run again, and those of a chain go on, once all others have
+    /// ended but the workers. Only want of memory refuses.
     pub fn go_gathered<R: Wait>(
         &mut self,
         rt: &R,
@@ -275,8 +275,9 @@ impl BoardCaller {
         answer
     }
 
-    /// Drains a pipeline that the caller shares, as `drain` does one of its own, once all others have ended but the workers, and the
-    /// caller has learnt what it accepted (`gather`). Only want of memory refuses, and hands out nothing.
+    /// Drains a pipeline that the caller shares, as `drain` does one of its own, once all others have ended but the
+    /// workers, and the caller has learnt what it accepted (`gather`). Only want of memory refuses, and hands out
+    /// nothing.
     pub fn drain_gathered<R: Wait, G: Gate>(
         &mut self,
         rt: &R,

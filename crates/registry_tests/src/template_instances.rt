@@ -2,7 +2,7 @@
 
 ghost use Rattle.alg_registry.specs.Made.{Made};
 ghost use Rattle.templates.specs.Table.{table};
-ghost use Rattle.templates.specs.Looking.{NonePending};
+ghost use Rattle.templates.specs.LookResults.{NonePending};
 
 use crate::given::{bytes_of, kind_in, named, new_registry, number_in, words_of};
 use alg_names::{Name, print_name};

@@ -2,7 +2,7 @@
 #![tactic(auto)]
 
 ghost use Rattle.std.specs.Prelude.{◌≡◌, ℕ, ◌+◌, ◌-◌, ◌^◌, ◌<◌, ◌≤◌, nat_lt, ◌||◌, List, [], ◌∷◌, ◌++◌, length, OnOk, MatchOption};
-ghost use Rattle.request_queue.specs.Line.{accepted, verdict_on, line_after, number_at_bound};
+ghost use Rattle.request_queue.specs.BoundedQueue.{accepted, verdict_on, queue_after, number_at_bound};
 
 use std::alloc::{AllocError, Global};
 use std::collections::VecDeque;
@@ -43,9 +43,9 @@ pub struct Queue<T> {
 impl<T> Model for Queue<T> {
     ghost use Rattle.std.specs.Prelude.{◌+◌, ◌≤◌, ◌^◌};
     ghost use Rattle.std.specs.VecDeque.{deque_len, deque_capacity};
-    ghost use Rattle.request_queue.specs.Line.{Line};
+    ghost use Rattle.request_queue.specs.BoundedQueue.{BoundedQueue};
 
-    ghost Value = { Line T };
+    ghost Value = { BoundedQueue T };
 
     ghost view = { λ q. record { max = q.max; served = q.served; waiting = q.waiting.items; spare = q.spare } };
 
@@ -111,7 +111,7 @@ impl<T: Drop> Queue<T> {
         requires number { number ≡ accepted self.old }
         requires small { number < 2 ^ 63 }
         ensures verdict { result ≡ verdict_on (length self.old.waiting) self.old.max backlog item }
-        ensures line { self.new ≡ line_after self.old item result }
+        ensures queue { self.new ≡ queue_after self.old item result }
     {
         let verdict = if self.waiting.len() < self.max as usize {
             Verdict::InProgress

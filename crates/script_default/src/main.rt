@@ -1,7 +1,8 @@
-//! A script of the crypto API on standard input, whose lines are answered on standard output: what `crypto_script` does without
-//! words.
+//! A script of the crypto API on standard input, whose lines are answered on standard output: what `crypto_script` does
+//! without words.
 //!
-//! A third of what `crypto_script` is compiled from reads its words. This program has none of that, so it stands sooner.
+//! A third of what `crypto_script` is compiled from reads its words. This program has none of that, so it stands
+//! sooner.
 #![tactic(auto)]
 
 use crew::NoGate;

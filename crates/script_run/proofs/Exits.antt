@@ -7,7 +7,7 @@ use Rattle.std.proofs.KnownBytes.{Consumes-nil, Keeps-refl, Appends-nil}
 use Rattle.std.proofs.lemmas.List.Folds.{list_any-append}
 use Rattle.board.specs.Legal.{is_shut}
 use Rattle.dialogues.specs.Lines.{line_dialogue}
-use Rattle.dialogues.specs.Piping.{end}
+use Rattle.dialogues.specs.PipelineCommands.{end}
 use Rattle.dialogues.specs.Transcripts.{text_in}
 use Rattle.dialogues.specs.ScriptState.{start}
 use Rattle.dialogues.specs.Widths.{width_of}
@@ -15,8 +15,8 @@ use Rattle.kc_base.specs.declared.transfer.InputError.{InputError}
 use Rattle.kc_base.specs.declared.transfer.InputError.TheVariants as input
 use Rattle.kc_base.specs.declared.transfer.SinkError.{SinkError}
 use Rattle.kc_base.specs.declared.transfer.SinkError.TheVariants as output
-use Rattle.script_session.specs.Ending.{AnswersEnd, EndsShut}
-use Rattle.script_session.specs.Running.{IsReady, Replies}
+use Rattle.script_session.specs.EndOfInput.{AnswersEnd, EndsShut}
+use Rattle.script_session.specs.Replies.{IsReady, Replies}
 use Rattle.script_session.specs.States.{State}
 use Rattle.script_text.specs.NextLine.{Place, FindsNext}
 use Rattle.script_text.specs.Script.{script_of}

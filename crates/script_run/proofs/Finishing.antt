@@ -16,11 +16,11 @@ use Rattle.board.specs.declared.entry.BoardEntry.TheVariants.{Shut}
 use Rattle.board.specs.Entries.{entries_of, caller_of as board_caller}
 use Rattle.board.specs.Legal.{MayManage, AreRightAfter, LegalBoard, is_shut, is_shut_entry}
 use Rattle.board.specs.Others.{WorkLeavesOwn}
-use Rattle.board.specs.Staying.{is_work}
+use Rattle.board.specs.PipelineHistory.{is_work}
 use Rattle.crew.specs.declared.passes.Passes.{Passes}
 use Rattle.crew.specs.Both.{ArePassesOn, HaveNext, CrewedOnBoth}
 use Rattle.crew.specs.Crews.{Crewed, with_next}
-use Rattle.dialogues.specs.Allocating.{lists_beside}
+use Rattle.dialogues.specs.AllocAndFree.{lists_beside}
 use Rattle.dialogues.specs.BoardCalls.{BoardCall, Shuts, board_calls, board_calls_from}
 use Rattle.dialogues.specs.Dialogues.{Dialogue}
 use Rattle.dialogues.specs.RegistryCalls.{reg_calls}
@@ -28,14 +28,14 @@ use Rattle.dialogues.specs.Texts.{IsText}
 use Rattle.script_run.specs.ByLines.{IsTextByLines, LinesTell}
 use Rattle.script_run.specs.Fronts.{IsFrontText}
 use Rattle.dialogues.specs.ScriptState.{start}
-use Rattle.script_session.specs.Ending.{EndsShut}
-use Rattle.script_session.specs.Performing.{HasSeenMore}
-use Rattle.script_session.specs.Running.{IsReady}
+use Rattle.script_session.specs.EndOfInput.{EndsShut}
+use Rattle.script_session.specs.PerformedDialogue.{HasSeenMore}
+use Rattle.script_session.specs.Replies.{IsReady}
 use Rattle.script_session.specs.States.{State, ReferencesMatch, PipelinesMatch, MadeWide}
 use Rattle.script_text.specs.declared.commands.Line.{Line}
 use Rattle.script_text.specs.Script.{script_of}
 use Rattle.script_text.specs.Whole.{whole_script}
-use Rattle.settled_scripts.specs.Printing.{PrintsPlain}
+use Rattle.settled_scripts.specs.PrintedText.{PrintsPlain}
 use Rattle.settled_scripts.specs.Settled.{IsSettled, plain_text}
 use Rattle.templates.specs.Table.{table}
 use Rattle.recorded_calls.specs.Passes.{known, BoardPass}
@@ -43,7 +43,7 @@ use Rattle.shared_board.specs.declared.shared.SharedBoard.{SharedBoard}
 use Rattle.shared_registry.specs.declared.registry_lock.SharedRegistry.{SharedRegistry}
 use Rattle.transforms.specs.declared.ask.Ask.{Ask}
 use Rattle.transforms.specs.declared.request.Finished.{Finished}
-use Rattle.turn_lock.specs.Meeting.{AtTurn, Enters, Leaves, IsOwn}
+use Rattle.turn_lock.specs.PassLaws.{AtTurn, Enters, Leaves, IsOwn}
 use Rattle.turn_lock.specs.Passes.{knows}
 use Rattle.turn_lock.specs.Turns.{Known, StartsWith, Each, Shows, of, fresh_pass}
 use Rattle.script_run.specs.declared.errors.RunError.{RunError}
@@ -54,7 +54,7 @@ use Rattle.script_run.specs.Endings.{AreCallers, EndsShut as ShutLast, IsShutOnc
 use Rattle.script_run.specs.WithWorkers.{AreHistories, ScriptRan}
 use Rattle.script_run.specs.Runs.{Gains, GoesOn, OthersFollow, IsTextAfter, IsFrontAfter, IsByLinesAfter, InTurn, InTurnAfter, IsShutIn, IsUnshutOrEnds, WasShut, AreNew, HasShut, Ended}
 use Rattle.script_run.specs.Text.{is_malformed}
-use Rattle.shared_registry.specs.Building.{is_building}
+use Rattle.shared_registry.specs.Builds.{is_building}
 use Rattle.script_run.proofs.Following.{none-pass, starts-trans, sees-then, others-then, board_calls-same}
 use Rattle.script_run.proofs.Going.{nothing_fronted, nothing_by_lines, nothing_broken}
 
@@ -450,8 +450,8 @@ others-beside workers (e ∷ es) each none =
     work not (inl zero_is) = let bad : true ≡ false = sym (eq-eqb (board_caller e) 0 zero_is) ∙ not in cc
     work not (inr works) = works
 
--- The passes that a run of a crew began with, those that its script was given and gave back, those that came back, and the histories
--- that both locks then handed out.
+-- The passes that a run of a crew began with, those that its script was given and gave back, those that came back, and
+-- the histories that both locks then handed out.
 pub record IsRunOf (workers : ℕ) (first p q l : Passes Ask) (r : List RegEntry) (b : List (BoardEntry Ask)) : Type 0 where
   pub new : (knows first.board ≡ fresh_pass) × (knows first.registry ≡ fresh_pass)
   pub next : HaveNext workers first p

@@ -11,11 +11,11 @@ use Rattle.board.specs.Entries.{caller_of as board_caller}
 use Rattle.dialogues.specs.BoardCalls.{board_calls, board_calls_from, is_called}
 use Rattle.dialogues.specs.InTurn.{AreInTurnBy}
 use Rattle.dialogues.specs.RegistryCalls.{RegCall, reg_calls, reg_calls_from, AllSettled}
-use Rattle.templates.specs.Looking.{is_asked}
+use Rattle.templates.specs.LookResults.{is_asked}
 use Rattle.transforms.specs.declared.ask.Ask.{Ask}
 use Rattle.turn_lock.specs.Turns.{Known, StartsWith, of}
 use Rattle.script_run.specs.Laws.{Laws}
-use Rattle.script_session.specs.Performing.{HasSeenMore}
+use Rattle.script_session.specs.PerformedDialogue.{HasSeenMore}
 use Rattle.script_run.specs.Runs.{OthersFollow}
 
 module _ {E : Type 0} where

@@ -7,9 +7,9 @@ use Rattle.alg_registry.specs.declared.entry.RegEntry.{RegEntry}
 use Rattle.board.specs.declared.entry.BoardEntry.{BoardEntry}
 use Rattle.dialogues.specs.BoardCalls.{BoardCall, board_calls}
 use Rattle.dialogues.specs.Dialogues.{Dialogue, Ends, Says, Asks, Posts, followed}
-use Rattle.dialogues.specs.Leading.{Leads}
+use Rattle.dialogues.specs.Continuations.{Leads}
 use Rattle.dialogues.specs.Lines.{line_dialogue, lines_dialogue, script}
-use Rattle.dialogues.specs.Piping.{end}
+use Rattle.dialogues.specs.PipelineCommands.{end}
 use Rattle.dialogues.specs.Questions.{RegAnswer, reg_call, reg_answer, BoardAnswer, board_call, board_answer}
 use Rattle.dialogues.specs.RegistryCalls.{RegCall, reg_calls}
 use Rattle.dialogues.specs.Transcripts.{Transcript, ended, joined, broken, asking, posting, transcript_of, text_in}

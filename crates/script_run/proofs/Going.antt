@@ -10,9 +10,9 @@ use Rattle.dialogues.specs.BoardCalls.{BoardCall, board_calls, board_calls_from}
 use Rattle.dialogues.specs.Dialogues.{Dialogue, Ends as Done}
 use Rattle.dialogues.specs.First.{AreFurther, BeginsBy}
 use Rattle.dialogues.specs.InTurn.{AsksNothing, AreInTurnBy}
-use Rattle.dialogues.specs.Leading.{Leads}
+use Rattle.dialogues.specs.Continuations.{Leads}
 use Rattle.dialogues.specs.Lines.{line_dialogue, lines_dialogue}
-use Rattle.dialogues.specs.Piping.{end}
+use Rattle.dialogues.specs.PipelineCommands.{end}
 use Rattle.dialogues.specs.RegistryCalls.{RegCall, reg_calls, reg_calls_from, AllSettled}
 use Rattle.dialogues.specs.Texts.{IsText}
 use Rattle.script_run.specs.ByLines.{IsTextByLines, LinesTell, ScriptTells, NothingIsByLines, told_by}
@@ -22,24 +22,24 @@ use Rattle.dialogues.specs.ScriptState.{start}
 use Rattle.dialogues.specs.Widths.{width_of, widest}
 use Rattle.dialogues.proofs.Leading.{text-joined}
 use Rattle.kc_base.specs.Streams.{IsPrefix}
-use Rattle.script_session.specs.Ending.{AnswersEnd}
-use Rattle.script_session.specs.Running.{IsReady, Replies}
+use Rattle.script_session.specs.EndOfInput.{AnswersEnd}
+use Rattle.script_session.specs.Replies.{IsReady, Replies}
 use Rattle.script_session.specs.States.{State}
 use Rattle.script_text.specs.declared.commands.Line.{Line}
 use Rattle.script_text.specs.Script.{script_of}
 use Rattle.script_text.specs.Whole.{AreFirst}
-use Rattle.recorded_calls.specs.Asking.{AskedBy}
+use Rattle.recorded_calls.specs.RegistryCalls.{AskedBy}
 use Rattle.recorded_calls.specs.Passes.{known}
 use Rattle.recorded_calls.specs.Pipelines.{Called}
 use Rattle.shared_board.specs.declared.shared.SharedBoard.{SharedBoard}
 use Rattle.shared_registry.specs.declared.registry_lock.SharedRegistry.{SharedRegistry}
 use Rattle.transforms.specs.declared.ask.Ask.{Ask}
 use Rattle.transforms.specs.declared.request.Finished.{Finished}
-use Rattle.turn_lock.specs.Meeting.{IsOwn}
+use Rattle.turn_lock.specs.PassLaws.{IsOwn}
 use Rattle.turn_lock.specs.Turns.{Known, StartsWith}
 use Rattle.script_run.specs.Answered.{AreAnsweredAfter, BeginsWithTextAfter, IsCutOffAfter, IsBrokenOffAfter, IsBrokenOff, MakesFirstAfter, NothingIsBrokenOff, lines_and_next, lines_transcript}
 use Rattle.script_run.specs.Laws.{Laws}
-use Rattle.script_session.specs.Performing.{HasSeenMore, StopsIn}
+use Rattle.script_session.specs.PerformedDialogue.{HasSeenMore, StopsIn}
 use Rattle.script_run.specs.Runs.{Gains, GoesOn, IsFresh, Writes, Cuts, Breaks, AnswersAndShuts, IsTextAfter, IsFrontAfter, IsByLinesAfter, InTurnAfter}
 use Rattle.script_run.proofs.Fronts.{front-lines, front-text, nothing-front, widest-front, widest-last}
 use Rattle.script_run.proofs.Following.{starts-trans, sees-same, sees-then, reg_calls-on, board_calls-on, reg_calls-same, board_calls-same, in_turn-on, unasked}

@@ -12,7 +12,7 @@ use Rattle.dialogues.specs.BoardCalls.{board_calls}
 use Rattle.dialogues.specs.Dialogues.{Dialogue, Ends, followed}
 use Rattle.dialogues.specs.InTurn.{AreInTurnBy}
 use Rattle.dialogues.specs.Lines.{line_dialogue, lines_dialogue}
-use Rattle.dialogues.specs.Piping.{end}
+use Rattle.dialogues.specs.PipelineCommands.{end}
 use Rattle.dialogues.specs.RegistryCalls.{reg_calls, AllSettled}
 use Rattle.dialogues.specs.Transcripts.{Transcript, IsTranscript, ended, joined, transcript_of}
 use Rattle.dialogues.specs.ScriptState.{ScriptState}
@@ -21,12 +21,12 @@ use Rattle.load_mode.specs.Requests.{drawn_request, drawn_requests, asked_for, a
 use Rattle.load_mode.specs.Lines.{opening, request_line, request_lines, load_dialogue}
 use Rattle.load_mode.specs.Turns.{bytes_told}
 use Rattle.reply_text.specs.declared.answers.Answer.{Answer}
-use Rattle.script_session.specs.Ending.{EndsWith}
-use Rattle.script_session.specs.Performing.{PerformsBy}
-use Rattle.script_session.specs.Saying.{hands_out}
+use Rattle.script_session.specs.EndOfInput.{EndsWith}
+use Rattle.script_session.specs.PerformedDialogue.{PerformsBy}
+use Rattle.script_session.specs.ReplyText.{hands_out}
 use Rattle.script_session.specs.States.{State}
 use Rattle.script_text.specs.declared.commands.Line.{Line}
-use Rattle.recorded_calls.specs.Asking.{AskedBy}
+use Rattle.recorded_calls.specs.RegistryCalls.{AskedBy}
 use Rattle.recorded_calls.specs.Passes.{known}
 use Rattle.recorded_calls.specs.Pipelines.{Called}
 use Rattle.transforms.specs.declared.ask.Ask.{Ask}

@@ -8,11 +8,11 @@ use Rattle.board.specs.declared.entry.BoardEntry.{BoardEntry}
 use Rattle.crew.specs.declared.passes.Passes.{Passes}
 use Rattle.load_mode.specs.Requests.{digest_of, line_of, load_line, load_requests}
 use Rattle.load_mode.specs.Turns.{IsLoadTranscript, AreLoaded, LoadsComeTo}
-use Rattle.script_session.specs.Ending.{EndsShut}
+use Rattle.script_session.specs.EndOfInput.{EndsShut}
 use Rattle.script_session.specs.States.{State}
 use Rattle.recorded_calls.specs.Passes.{known, BoardPass}
 use Rattle.transforms.specs.declared.ask.Ask.{Ask}
-use Rattle.turn_lock.specs.Meeting.{IsOwn}
+use Rattle.turn_lock.specs.PassLaws.{IsOwn}
 use Rattle.script_run.specs.Endings.{EndsShut as ShutLast}
 use Rattle.script_run.specs.Laws.{CrewLaws}
 use Rattle.script_run.specs.Loads.{Loads, LoadEnds, IsLoadTurnAfter}

@@ -17,14 +17,14 @@ use Rattle.dialogues.specs.Texts.{IsText}
 use Rattle.dialogues.specs.Transcripts.{Transcript, transcript_of, text_in}
 use Rattle.dialogues.specs.ScriptState.{start}
 use Rattle.kc_base.specs.Streams.{IsPrefix}
-use Rattle.script_session.specs.Ending.{EndsShut}
+use Rattle.script_session.specs.EndOfInput.{EndsShut}
 use Rattle.script_session.specs.States.{State}
 use Rattle.script_text.specs.declared.commands.Line.{Line}
 use Rattle.script_text.specs.Script.{script_of}
 use Rattle.script_text.specs.Whole.{whole_script}
 use Rattle.recorded_calls.specs.Passes.{known}
 use Rattle.transforms.specs.declared.ask.Ask.{Ask}
-use Rattle.turn_lock.specs.Meeting.{IsOwn}
+use Rattle.turn_lock.specs.PassLaws.{IsOwn}
 use Rattle.turn_lock.specs.Passes.{knows}
 use Rattle.turn_lock.specs.Turns.{Known, StartsWith, of}
 use Rattle.script_run.specs.declared.errors.RunError.{RunError}
@@ -41,8 +41,8 @@ lines_transcript workers lines r b = transcript_of (lines_dialogue workers (star
 abbrev pub IsShutAlone : List BoardCall → Type 0
 IsShutAlone calls = (calls ≡ []) ⊎ (calls ≡ Shuts ∷ [])
 
--- These lines are answered whole, and this is their text: the histories hold their calls, each of which has come to something,
--- and beside the shut of the board no further ones of the script.
+-- These lines are answered whole, and this is their text: the histories hold their calls, each of which has come to
+-- something, and beside the shut of the board no further ones of the script.
 pub record AreAnswered (workers : ℕ) (lines : List Line) (r : List RegEntry) (b : List (BoardEntry Ask)) (text : List ℕ) : Type 0 where
   pub registry : (lines_transcript workers lines r b).registry ≡ reg_calls 0 r
   pub settled : AllSettled (reg_calls 0 r)
@@ -77,7 +77,8 @@ pub record CutInEnd (IsWhole : List ℕ → Type 0) (BeginsWith : List Line → 
   pub begins : BeginsWith lines text
   pub front : IsPrefix text whole
 
--- The text was cut off in a line, or at the end of input. The script made the calls of what is answered, and no others but the shut.
+-- The text was cut off in a line, or at the end of input. The script made the calls of what is answered, and no others
+-- but the shut.
 abbrev pub IsCutOff : ℕ → List Line → List RegEntry → List (BoardEntry Ask) → List ℕ → Type 0
 IsCutOff workers lines r b text =
     CutInLine (λ first. AreAnswered workers first r b) (λ first. BeginsWithText workers first r b) lines text
@@ -98,7 +99,8 @@ abbrev pub lines_and_next : ℕ → List Line → List Line → Dialogue
 lines_and_next workers first [] = script workers (start 0) first
 lines_and_next workers first (line ∷ left) = lines_dialogue workers (start 0) 1 (first ++ line ∷ []) Ends
 
--- First lines are answered, and their text is written. The next line, or the end of input, isn't answered: the calls are such.
+-- First lines are answered, and their text is written. The next line, or the end of input, isn't answered: the calls
+-- are such.
 pub record StopsBehind (Tells : List Line → List ℕ → Type 0) (Calls : List Line → List Line → Type 0) (lines : List Line) (text : List ℕ) : Type 0 where
   pub first : List Line
   pub left : List Line
@@ -193,8 +195,8 @@ ShutsAlone by k l =
 
 -- ---- what a source gave
 
--- What was written of the lines in these bytes where the source failed, gave too much, or the sink failed: the text of such as
--- were answered, or one that begins with theirs. So it does where all is written.
+-- What was written of the lines in these bytes where the source failed, gave too much, or the sink failed: the text of
+-- such as were answered, or one that begins with theirs. So it does where all is written.
 pub record AnswersFirst (AreAll : List Line → List ℕ → Type 0) (BeginsWith : List Line → List ℕ → Type 0) (given : List ℕ) (result : Result Bool RunError) (held held' : Option (List ℕ)) : Type 0 where
   pub failed : IsErrOf result ReadFault → Gains held held' (AreAll (whole_script given))
   pub too_long : IsErrOf result TooLong ↔ (2 ^ 28 < length given)

@@ -38,8 +38,8 @@ abbrev pub NextTells : ℕ → List Line → List Line → List RegEntry → Lis
 NextTells workers first [] r b text = ScriptTells workers first r b text
 NextTells workers first (line ∷ left) r b text = LinesTell workers (first ++ line ∷ []) r b text
 
--- The text of first lines, which are answered; or with it a front of what the next one prints, or the end of input, which then is answered
--- too.
+-- The text of first lines, which are answered; or with it a front of what the next one prints, or the end of input,
+-- which then is answered too.
 pub record IsTextByLines (workers : ℕ) (lines : List Line) (r : List RegEntry) (b : List (BoardEntry Ask)) (text : List ℕ) : Type 0 where
   pub first : List Line
   pub left : List Line

@@ -5,7 +5,7 @@ use Rattle.alg_registry.specs.Rows.{caller_of as reg_caller}
 use Rattle.board.specs.declared.entry.BoardEntry.{BoardEntry}
 use Rattle.board.specs.declared.entry.BoardEntry.TheVariants.{Shut}
 use Rattle.board.specs.Entries.{caller_of as board_caller}
-use Rattle.board.specs.Staying.{is_work}
+use Rattle.board.specs.PipelineHistory.{is_work}
 use Rattle.trace_text.specs.Asks.{ask_origin}
 use Rattle.trace_text.specs.Trace.{trace_of, AreEvents}
 use Rattle.transforms.specs.declared.ask.Ask.{Ask}

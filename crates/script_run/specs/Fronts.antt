@@ -11,7 +11,8 @@ use Rattle.kc_base.specs.Streams.{IsPrefix}
 use Rattle.script_text.specs.declared.commands.Line.{Line}
 use Rattle.transforms.specs.declared.ask.Ask.{Ask}
 
--- The first calls of the caller are those of a turn of the script, which may break off, and this is a front of what it prints.
+-- The first calls of the caller are those of a turn of the script, which may break off, and this is a front of what it
+-- prints.
 pub record IsFrontText (workers : ℕ) (script_state : ScriptState) (caller : ℕ) (lines : List Line) (r : List RegEntry) (b : List (BoardEntry Ask)) (text : List ℕ) : Type 0 where
   pub turn : Transcript
   pub is : IsTranscript (script workers script_state lines) turn

@@ -10,7 +10,7 @@ use Rattle.dialogues.specs.BoardCalls.{BoardCall}
 use Rattle.dialogues.specs.Dialogues.{Dialogue, followed}
 use Rattle.dialogues.specs.FirstCalls.{BeginsByNone, BeginsInFirst, BeginsInLines, FurtherStay}
 use Rattle.dialogues.specs.GoingOn.{RegistryCallsGoOn, RegistryUnasked, BoardCallsGoOn, BoardUncalled, NoCall, InTurnByAny, InTurnByMore, CallsThenCallsBy}
-use Rattle.dialogues.specs.Leading.{LeadsNowhere, LeadsOn, LeadsToEnd}
+use Rattle.dialogues.specs.Continuations.{LeadsNowhere, LeadsOn, LeadsToEnd}
 use Rattle.dialogues.specs.RegistryCalls.{RegCall}
 use Rattle.dialogues.specs.Transcripts.{Transcript, IsTranscript, joined, transcript_of}
 use Rattle.dialogues.specs.ScriptState.{ScriptState}

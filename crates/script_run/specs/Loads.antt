@@ -20,15 +20,15 @@ use Rattle.load_mode.specs.Turns.{bytes_told, IsLoadTranscript}
 use Rattle.script_session.specs.States.{State}
 use Rattle.recorded_calls.specs.Passes.{known}
 use Rattle.transforms.specs.declared.ask.Ask.{Ask}
-use Rattle.turn_lock.specs.Meeting.{IsOwn}
+use Rattle.turn_lock.specs.PassLaws.{IsOwn}
 use Rattle.turn_lock.specs.Passes.{knows}
 use Rattle.turn_lock.specs.Turns.{Known}
 use Rattle.script_run.specs.Runs.{OthersFollow, HasShut, IsShutIn}
 
 -- ---- a session that holds it
 
--- The session has held a part of this dialogue, and the rest is left: its calls are all that its passes have of it, made one after the
--- other, and the hasher holds what the completions told.
+-- The session has held a part of this dialogue, and the rest is left: its calls are all that its passes have of it,
+-- made one after the other, and the hasher holds what the completions told.
 pub record IsHeld (whole left : Dialogue) (s : State) (hasher : Sha256) : Type 0 where
   pub turn : Transcript
   pub leads : (r : List RegCall) (b : List BoardCall) → transcript_of whole (turn.registry ++ r) (turn.board ++ b) ≡ joined turn (transcript_of left r b)

@@ -18,13 +18,13 @@ use Rattle.script_run.specs.Fronts.{IsFrontText}
 use Rattle.dialogues.specs.ScriptState.{start}
 use Rattle.dialogues.specs.Widths.{widest}
 use Rattle.kc_base.specs.Streams.{AppendsFront, IsPrefix}
-use Rattle.script_session.specs.Ending.{AnswersEnd, EndsShut}
-use Rattle.script_session.specs.Performing.{HasSeenMore, StopsIn}
+use Rattle.script_session.specs.EndOfInput.{AnswersEnd, EndsShut}
+use Rattle.script_session.specs.PerformedDialogue.{HasSeenMore, StopsIn}
 use Rattle.script_session.specs.States.{State, SameLocks}
 use Rattle.script_text.specs.declared.commands.Line.{Line}
 use Rattle.recorded_calls.specs.Passes.{known}
 use Rattle.transforms.specs.declared.ask.Ask.{Ask}
-use Rattle.turn_lock.specs.Meeting.{IsOwn}
+use Rattle.turn_lock.specs.PassLaws.{IsOwn}
 use Rattle.turn_lock.specs.Passes.{knows}
 use Rattle.turn_lock.specs.Turns.{Known, StartsWith, of}
 use Rattle.script_run.specs.Text.{is_malformed}
@@ -85,12 +85,14 @@ AnswersAndShuts s s' reply = EndsShut (known s'.board) × AnswersEnd s s' [] rep
 
 -- ---- the text, however the histories go on
 
--- the script's text over all histories in which others alone follow on what the passes have seen; its calls are in turn there
+-- the script's text over all histories in which others alone follow on what the passes have seen; its calls are in turn
+-- there
 abbrev pub IsTextAfter : ℕ → List Line → Known RegEntry → Known (BoardEntry Ask) → List ℕ → Type 0
 IsTextAfter workers lines k l text =
     (r : List RegEntry) (b : List (BoardEntry Ask)) → OthersFollow reg_caller k r → OthersFollow board_caller l b → IsText workers (start 0) 0 lines r b text
 
--- the text of first lines, and maybe a front of what one more prints, over all histories that begin with what the passes have seen
+-- the text of first lines, and maybe a front of what one more prints, over all histories that begin with what the
+-- passes have seen
 abbrev pub IsByLinesAfter : ℕ → List Line → Known RegEntry → Known (BoardEntry Ask) → List ℕ → Type 0
 IsByLinesAfter workers lines k l text =
     (r : List RegEntry) (b : List (BoardEntry Ask)) → StartsWith r k.seen → StartsWith b l.seen → IsTextByLines workers lines r b text
@@ -100,8 +102,8 @@ abbrev pub IsFrontAfter : ℕ → List Line → Known RegEntry → Known (BoardE
 IsFrontAfter workers lines k l text =
     (r : List RegEntry) (b : List (BoardEntry Ask)) → StartsWith r k.seen → StartsWith b l.seen → IsFrontText workers (start 0) 0 lines r b text
 
--- The script made its calls of the registry one after the other, each when the one before had come to something; with as many
--- looks at once as one of its probes has names.
+-- The script made its calls of the registry one after the other, each when the one before had come to something; with
+-- as many looks at once as one of its probes has names.
 abbrev pub InTurn : List Line → List RegEntry → Type 0
 InTurn lines r = AreInTurnBy (widest lines) 0 (reg_calls 0 r) [] r
 
@@ -119,7 +121,8 @@ pub record WasShut (b : List (BoardEntry Ask)) : Type 0 where
   pub history : b ≡ before ++ Shut 0 ∷ after
   pub others : of board_caller 0 after ≡ []
 
--- The board was shut when each request was finished of each pipeline that the script made and hadn't closed. Since then others alone made entries.
+-- The board was shut when each request was finished of each pipeline that the script made and hadn't closed. Since then
+-- others alone made entries.
 pub record IsShutIn (b : List (BoardEntry Ask)) : Type 0 where
   pub before : List (BoardEntry Ask)
   pub after : List (BoardEntry Ask)

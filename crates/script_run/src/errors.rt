@@ -59,8 +59,8 @@ impl From<SinkError> for RunError {
     }
 }
 
-/// The program's status: 0 where no line is malformed, 1 where one is; and where the run did not reach the end, 2 for `Usage`, 3 for
-/// `ReadFault`, 4 for `WriteFault`, 5 for `NoMemory` and 6 for `TooLong`.
+/// The program's status: 0 where no line is malformed, 1 where one is; and where the run did not reach the end, 2 for
+/// `Usage`, 3 for `ReadFault`, 4 for `WriteFault`, 5 for `NoMemory` and 6 for `TooLong`.
 pub fn status_by(answer: Result<bool, RunError>) -> u8
     ensures { result ≡ status_of answer }
 {

@@ -6,12 +6,12 @@ ghost use Rattle.kc_base.specs.Streams.{Rose, AppendsFront};
 ghost use Rattle.std.specs.Io.KnownBytes.{Appends};
 ghost use Rattle.script_text.specs.Sizes.{IsShortLine};
 ghost use Rattle.dialogues.specs.Lines.{line_dialogue};
-ghost use Rattle.dialogues.specs.Piping.{end};
+ghost use Rattle.dialogues.specs.PipelineCommands.{end};
 ghost use Rattle.dialogues.specs.Widths.{width_of};
 ghost use Rattle.recorded_calls.specs.Passes.{known};
-ghost use Rattle.script_session.specs.Performing.{StopsIn};
-ghost use Rattle.script_session.specs.Running.{IsReady, Replies};
-ghost use Rattle.script_session.specs.Ending.{AnswersEnd, EndsShut};
+ghost use Rattle.script_session.specs.PerformedDialogue.{StopsIn};
+ghost use Rattle.script_session.specs.Replies.{IsReady, Replies};
+ghost use Rattle.script_session.specs.EndOfInput.{AnswersEnd, EndsShut};
 ghost use Rattle.script_run.specs.Text.{is_malformed};
 ghost use Rattle.script_run.specs.Laws.{Laws};
 ghost use Rattle.script_run.specs.Answered.{RunsSource};
@@ -226,9 +226,9 @@ fn run_read<S: Source, K: Sink, G: Gate, R: Threads + Wait + Sync>(
     Ok(malformed)
 }
 
-/// Answers each line out of the source and its end, each in one piece, and says whether a line is malformed. It reads on only
-/// where each whole line of what was read is answered, and the sink flushed. A failed read, more bytes than `MAX_INPUT`, a failed
-/// write and want of memory stop it.
+/// Answers each line out of the source and its end, each in one piece, and says whether a line is malformed. It reads
+/// on only where each whole line of what was read is answered, and the sink flushed. A failed read, more bytes than
+/// `MAX_INPUT`, a failed write and want of memory stop it.
 pub fn run_lines<S: Source, K: Sink, G: Gate, R: Threads + Wait + Sync>(
     rt: &R,
     alloc: Global,

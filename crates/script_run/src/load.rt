@@ -181,9 +181,9 @@ fn write_line<K: Sink>(
     Ok(false)
 }
 
-/// Makes the requests of a load, at most 100,000, beside as many workers as it asks for, at most 16, on a board and a registry of its
-/// own, and then writes its line. The answer is `false`, or `WriteFault` or `NoMemory`. However it ends, what was written is a front
-/// of the line.
+/// Makes the requests of a load, at most 100,000, beside as many workers as it asks for, at most 16, on a board and a
+/// registry of its own, and then writes its line. The answer is `false`, or `WriteFault` or `NoMemory`. However it
+/// ends, what was written is a front of the line.
 pub fn run_load<K: Sink, G: Gate + Sync, R: Threads + Wait + Sync>(
     rt: &R,
     alloc: Global,

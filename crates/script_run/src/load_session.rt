@@ -5,18 +5,18 @@ ghost use Rattle.alg_registry.specs.Rows.{caller_of};
 ghost use Rattle.board.specs.Legal.{is_shut};
 ghost use Rattle.dialogues.specs.Dialogues.{followed};
 ghost use Rattle.dialogues.specs.Lines.{line_dialogue, lines_dialogue};
-ghost use Rattle.dialogues.specs.Piping.{end};
+ghost use Rattle.dialogues.specs.PipelineCommands.{end};
 ghost use Rattle.dialogues.specs.ScriptState.{ScriptState as Made};
 ghost use Rattle.dialogues.specs.Dialogues.{Dialogue, Ends};
 ghost use Rattle.dialogues.specs.Widths.{width_of};
 ghost use Rattle.load_mode.specs.Lines.{opening, request_line, request_lines};
 ghost use Rattle.load_mode.specs.Requests.{asked_for, drawn_request};
 ghost use Rattle.script_text.specs.Sizes.{IsShortLine};
-ghost use Rattle.script_session.specs.Ending.{EndsShut};
-ghost use Rattle.script_session.specs.Running.{IsReady};
-ghost use Rattle.script_session.specs.Saying.{hands_out};
+ghost use Rattle.script_session.specs.EndOfInput.{EndsShut};
+ghost use Rattle.script_session.specs.Replies.{IsReady};
+ghost use Rattle.script_session.specs.ReplyText.{hands_out};
 ghost use Rattle.recorded_calls.specs.Passes.{known};
-ghost use Rattle.turn_lock.specs.Meeting.{IsOwn};
+ghost use Rattle.turn_lock.specs.PassLaws.{IsOwn};
 ghost use Rattle.script_run.specs.Laws.{Laws};
 ghost use Rattle.script_run.specs.Loads.{IsHeld, PerformsOn, PerformsOpening, IsLoadTurnAfter};
 ghost use Rattle.script_run.specs.Runs.{GoesOn, IsFresh, IsUnshutOrEnds};
@@ -205,8 +205,8 @@ fn hold_end<G: Gate, R: Wait>(
     }
 }
 
-/// Makes so many requests from the seed, and gives the hash of their values: first of those of even numbers, then of the others. Only
-/// want of memory stops it.
+/// Makes so many requests from the seed, and gives the hash of their values: first of those of even numbers, then of
+/// the others. Only want of memory stops it.
 pub fn perform_load<G: Gate, R: Threads + Wait + Sync>(
     rt: &R,
     alloc: Global,

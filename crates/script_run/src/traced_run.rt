@@ -80,9 +80,9 @@ fn answer_traced<K: Sink>(
     Ok(malformed)
 }
 
-/// Runs the script out of the source as the options ask, beside at most 16 workers, on a board and a registry of its own, and then
-/// writes the trace of what they recorded, where the options ask for it and the run reached the end. `ReadFault`, `WriteFault`,
-/// `NoMemory` and `TooLong` end it; `Usage` never comes.
+/// Runs the script out of the source as the options ask, beside at most 16 workers, on a board and a registry of its
+/// own, and then writes the trace of what they recorded, where the options ask for it and the run reached the end.
+/// `ReadFault`, `WriteFault`, `NoMemory` and `TooLong` end it; `Usage` never comes.
 pub fn run_traced<S: Source, K: Sink, G: Gate + Sync, R: Threads + Wait + Sync>(
     rt: &R,
     alloc: Global,

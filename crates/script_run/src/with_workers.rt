@@ -5,9 +5,9 @@ ghost use Rattle.board.specs.Entries.{caller_of};
 ghost use Rattle.board.specs.Legal.{is_shut};
 ghost use Rattle.crew.specs.Both.{ArePassesOn, HaveNext, CrewedOnBoth};
 ghost use Rattle.kc_base.specs.Streams.{Rose};
-ghost use Rattle.script_session.specs.Performing.{HasSeenMore};
+ghost use Rattle.script_session.specs.PerformedDialogue.{HasSeenMore};
 ghost use Rattle.shared_board.specs.Passes.{IsPassOn};
-ghost use Rattle.turn_lock.specs.Meeting.{IsOwn};
+ghost use Rattle.turn_lock.specs.PassLaws.{IsOwn};
 ghost use Rattle.turn_lock.specs.Passes.{knows};
 ghost use Rattle.turn_lock.specs.Turns.{fresh_pass};
 ghost use Rattle.script_run.specs.Answered.{AnswersSource, ShutsAlone};
@@ -31,8 +31,8 @@ use std::sync::Wait;
 use std::thread::Threads;
 use transforms::{Ask, Finished, Job};
 
-/// What a run came to: whether a line is malformed, where it reached the end, and all that happened in the registry and on the
-/// board.
+/// What a run came to: whether a line is malformed, where it reached the end, and all that happened in the registry and
+/// on the board.
 #[derive(Drop)]
 pub struct RunResult {
     pub answer: Result<bool, RunError>,

@@ -7,12 +7,12 @@ use Rattle.kc_base.specs.declared.error_numbers.Errno.TheVariants.{EEXIST, EINVA
 use Rattle.alg_names.specs.Name.{Tree}
 use Rattle.reply_text.specs.declared.answers.Answer.{Answer}
 use Rattle.dialogues.specs.Names.{name_read, is_queue_length}
-use Rattle.dialogues.specs.Allocating.{alloc, binds, fault_of}
+use Rattle.dialogues.specs.AllocAndFree.{alloc, binds, fault_of}
 use Rattle.dialogues.specs.Dialogues.{Asks, answers_errno, unless}
 use Rattle.dialogues.specs.Questions.{Look}
 use Rattle.dialogues.specs.ScriptState.{ScriptState, Live, either, either_of}
-use Rattle.script_session.specs.Finding.{looks}
-use Rattle.script_session.specs.Performing.{Performs, StopsIn}
+use Rattle.script_session.specs.Alloc.{looks}
+use Rattle.script_session.specs.PerformedDialogue.{Performs, StopsIn}
 use Rattle.script_session.specs.States.{State}
 use Rattle.script_session.proofs.Arms.{unless-not, unless-so}
 

@@ -8,7 +8,7 @@ use Rattle.alg_registry.specs.declared.spec.Spec.{Spec}
 use Rattle.reply_text.specs.declared.answers.Answer.{Answer}
 use Rattle.dialogues.specs.References.{got, given}
 use Rattle.dialogues.specs.Names.{driver_spec}
-use Rattle.dialogues.specs.Registering.{enlist_said, register, enlist_spec}
+use Rattle.dialogues.specs.RegistryCommands.{enlist_said, register, enlist_spec}
 use Rattle.dialogues.specs.Dialogues.{Dialogue, Ends, Says, Asks as AsksFor, says, answers_errno, unless}
 use Rattle.dialogues.specs.Questions.{RegQuestion, RegAnswer, Enlist, reg_call, ListAll}
 use Rattle.dialogues.specs.ScriptState.{ScriptState, Live}
@@ -16,7 +16,7 @@ use Rattle.alg_registry.specs.declared.listing.ListRow.{ListRow}
 use Rattle.dialogues.specs.RegistryCalls.{RegCall, Lists}
 use Rattle.script_session.specs.States.{State, ReferencesMatch, PipelinesMatch}
 use Rattle.recorded_calls.specs.Passes.{RegPass, BoardPass, known, lock_of}
-use Rattle.recorded_calls.specs.Asking.{Asked, Asks}
+use Rattle.recorded_calls.specs.RegistryCalls.{Asked, Asks}
 use Rattle.recorded_calls.specs.Pipelines.{Called, Unchanged}
 use Rattle.turn_lock.specs.Turns.{Known}
 use Rattle.alg_registry.specs.declared.entry.RegEntry.{RegEntry}
@@ -24,7 +24,7 @@ use Rattle.board.specs.declared.entry.BoardEntry.{BoardEntry}
 use Rattle.board.specs.Legal.{is_shut}
 use Rattle.transforms.specs.declared.ask.Ask.{Ask}
 use Rattle.dialogues.specs.BoardCalls.{BoardCall}
-use Rattle.script_session.specs.Performing.{HasSeenMore, SeesOn, Done, Performs, Stops}
+use Rattle.script_session.specs.PerformedDialogue.{HasSeenMore, SeesOn, Done, Performs, Stops}
 use Rattle.script_session.proofs.Standing.{stands-more}
 use Rattle.recorded_calls.proofs.Boarding.{starts-same}
 use Rattle.script_session.proofs.Rules.{says-done, asks-done}

@@ -5,9 +5,9 @@ use Rattle.alg_registry.specs.declared.entry.RegEntry.{RegEntry}
 use Rattle.alg_registry.specs.Rows.{caller_of as reg_caller}
 use Rattle.board.specs.declared.entry.BoardEntry.{BoardEntry}
 use Rattle.reply_text.specs.declared.answers.Answer.{Answer}
-use Rattle.templates.specs.Looking.{Found}
+use Rattle.templates.specs.LookResults.{Found}
 use Rattle.transforms.specs.declared.ask.Ask.{Ask}
-use Rattle.turn_lock.specs.Meeting.{IsOwn}
+use Rattle.turn_lock.specs.PassLaws.{IsOwn}
 use Rattle.turn_lock.specs.Turns.{Known}
 use Rattle.dialogues.specs.BoardCalls.{BoardCall}
 use Rattle.dialogues.specs.Dialogues.{Dialogue, Asks as AsksFor}
@@ -16,11 +16,11 @@ use Rattle.dialogues.specs.Questions.{RegQuestion, RegAnswer, Look, reg_call}
 use Rattle.dialogues.specs.RegistryCalls.{RegCall, Looks, reg_calls}
 use Rattle.dialogues.specs.ScriptState.{ScriptState, Live}
 use Rattle.dialogues.proofs.First.{begins-none, begins-turn, begins-asks, begins-look, further-then}
-use Rattle.recorded_calls.specs.Asking.{Asked, Asks}
+use Rattle.recorded_calls.specs.RegistryCalls.{Asked, Asks}
 use Rattle.recorded_calls.specs.Passes.{RegPass, BoardPass, known}
 use Rattle.recorded_calls.specs.Pipelines.{Called}
-use Rattle.script_session.specs.Breaking.{Breaks, CallsOn}
-use Rattle.script_session.specs.Performing.{DoneBy, PerformsBy, SeesOn, Stops, StopsIn}
+use Rattle.script_session.specs.BrokenOff.{Breaks, CallsOn}
+use Rattle.script_session.specs.PerformedDialogue.{DoneBy, PerformsBy, SeesOn, Stops, StopsIn}
 use Rattle.script_session.specs.States.{State, ReferencesMatch, PipelinesMatch}
 use Rattle.script_session.proofs.Arms.{viewed, called-sees, stops-same, stops-arm}
 use Rattle.script_session.proofs.Rules.{called-nothing}

@@ -19,14 +19,14 @@ use Rattle.dialogues.specs.Transcripts.{Transcript, IsTranscript}
 use Rattle.dialogues.specs.ScriptState.{ScriptState, Live, PipelineState, is_of, live_of, with_live, replaced, without}
 use Rattle.script_session.specs.States.{HasPipe, PipelinesMatch, ReferencesMatch, is_at, owners}
 use Rattle.recorded_calls.specs.Pipelines.{Called, Owns, KnowsPipe, Unchanged, Changed, Closed}
-use Rattle.script_session.specs.Changing.{AreApart, Changes, PerformsFor, counting, close_calls, has_undelivered, Released}
-use Rattle.script_session.specs.Performing.{Done}
+use Rattle.script_session.specs.TransformChanges.{AreApart, Changes, PerformsFor, counting, close_calls, has_undelivered, Released}
+use Rattle.script_session.specs.PerformedDialogue.{Done}
 use Rattle.script_session.proofs.Standing.{stands-more}
 use Rattle.recorded_calls.proofs.Boarding.{kept-same}
 use Rattle.std.proofs.lemmas.Bool.{ltb-false}
 use Rattle.std.proofs.lemmas.List.{length-map}
 use Rattle.board.specs.Entries.{entries_of, submissions}
-use Rattle.board.specs.Handing.{HandsOutAtMost}
+use Rattle.board.specs.HandedOut.{HandsOutAtMost}
 use Rattle.script_session.proofs.Placed.{Split, uses-replaced}
 use Rattle.script_session.proofs.Rules.{asked-nothing}
 

@@ -12,19 +12,19 @@ use Rattle.script_text.specs.declared.commands.Command.{Command}
 use Rattle.script_text.specs.declared.commands.Line.{Line}
 use Rattle.dialogues.specs.Dialogues.{Dialogue, Ends}
 use Rattle.dialogues.specs.Lines.{command_dialogue, line_dialogue}
-use Rattle.dialogues.specs.Requesting.{request}
+use Rattle.dialogues.specs.RequestCommands.{request}
 use Rattle.dialogues.specs.Transcripts.{ended}
 use Rattle.dialogues.specs.Widths.{command_width, width_of}
 use Rattle.transforms.specs.declared.request.Request.{Request}
 use Rattle.recorded_calls.specs.Passes.{known}
-use Rattle.script_session.specs.Performing.{PerformsBy, Performs, StopsIn}
+use Rattle.script_session.specs.PerformedDialogue.{PerformsBy, Performs, StopsIn}
 use Rattle.recorded_calls.specs.Pipelines.{Called}
-use Rattle.script_session.specs.Running.{IsReady, Replies}
-use Rattle.script_session.specs.Saying.{SaysBy, BreaksOff}
+use Rattle.script_session.specs.Replies.{IsReady, Replies}
+use Rattle.script_session.specs.ReplyText.{SaysBy, BreaksOff}
 use Rattle.board.specs.declared.entry.BoardEntry.{BoardEntry}
 use Rattle.turn_lock.specs.Turns.{Known}
 use Rattle.dialogues.specs.ScriptState.{PipelineState}
-use Rattle.recorded_calls.specs.Sharing.{SharedStaysKnown}
+use Rattle.recorded_calls.specs.SharedCalls.{SharedStaysKnown}
 use Rattle.script_session.specs.States.{State, AreShared, ReferencesMatch, PipelinesMatch}
 use Rattle.script_session.proofs.Gives.{shared-stay}
 use Rattle.script_session.proofs.Rules.{asked-nothing, called-nothing}

@@ -11,10 +11,10 @@ use Rattle.templates.specs.declared.driver_plans.Plan.{Plan}
 use Rattle.transforms.specs.declared.ask.Ask.{Ask}
 use Rattle.transforms.specs.AskValue.{ask_size}
 use Rattle.turn_lock.specs.Turns.{Known}
-use Rattle.dialogues.specs.Allocating.{new_pipe, new_live, and_live}
+use Rattle.dialogues.specs.AllocAndFree.{new_pipe, new_live, and_live}
 use Rattle.dialogues.specs.ScriptState.{ScriptState, Live, PipelineState}
 use Rattle.recorded_calls.specs.Pipelines.{Opened, Owns}
-use Rattle.script_session.specs.Creating.{Created}
+use Rattle.script_session.specs.Creation.{Created}
 use Rattle.script_session.specs.States.{HasPipe, PipelinesMatch, is_at, owners}
 use Rattle.script_session.proofs.Changing.{IsOn, eq-swap, owners-append}
 

@@ -10,32 +10,32 @@ use Rattle.kc_base.specs.declared.callback_list.Callback.{Callback}
 use Rattle.board.specs.declared.entry.BoardEntry.{BoardEntry}
 use Rattle.board.specs.declared.entry.BoardEntry.TheVariants as event
 use Rattle.board.specs.Entries.{entries_of, submissions, front, is_shared, caller_of}
-use Rattle.board.specs.Handing.{AllHandedOutIsDrained, completions}
+use Rattle.board.specs.HandedOut.{AllHandedOutIsDrained, completions}
 use Rattle.board.specs.Legal.{MayManage, LegalBoard, is_shut}
-use Rattle.board.specs.Staying.{IsDrained}
+use Rattle.board.specs.PipelineHistory.{IsDrained}
 use Rattle.reply_text.specs.Answers.{text_of}
 use Rattle.reply_text.specs.declared.answers.Answer.{Answer}
 use Rattle.transforms.specs.declared.ask.Ask.{Ask}
 use Rattle.transforms.specs.declared.request.Finished.{Finished}
-use Rattle.turn_lock.specs.Meeting.{IsOwn}
+use Rattle.turn_lock.specs.PassLaws.{IsOwn}
 use Rattle.turn_lock.specs.Turns.{Known, sees}
 use Rattle.dialogues.specs.BoardCalls.{BoardCall, Goes, Collects, Shuts, origin_of}
 use Rattle.dialogues.specs.Dialogues.{Dialogue, Ends, Posts}
-use Rattle.dialogues.specs.Piping.{lets_go, let_all_go, drains_at_end, drain_all, drains_own, end, end_said, said_at_end, notice_said}
+use Rattle.dialogues.specs.PipelineCommands.{lets_go, let_all_go, drains_at_end, drain_all, drains_own, end, end_said, said_at_end, notice_said}
 use Rattle.dialogues.specs.Questions.{Shut}
 use Rattle.dialogues.specs.Transcripts.{IsTranscript, ended, joined, posting}
 use Rattle.dialogues.specs.ScriptState.{ScriptState, Live, PipelineState}
 use Rattle.dialogues.proofs.First.{begins-none}
-use Rattle.recorded_calls.specs.Asking.{Asked}
+use Rattle.recorded_calls.specs.RegistryCalls.{Asked}
 use Rattle.recorded_calls.specs.Passes.{RegPass, BoardPass, known, lock_of}
 use Rattle.recorded_calls.specs.Pipelines.{KnowsPipe, Owns, Unchanged, Called, Changed, Drained, IsShut, notice_by}
 use Rattle.recorded_calls.proofs.Boarding.{kept-same, called-more}
-use Rattle.script_session.specs.Changing.{Changes}
-use Rattle.script_session.specs.Ending.{LeadsBy, part, Moves, MovesAll, StopsMoving, PipelinesMatchState, AreAllDelivered, AllDelivered, place_of, EndsWith, AnswersEnd, AnswersEndBeside, EndsDelivered, EndsShut}
-use Rattle.script_session.specs.Performing.{StopsIn}
+use Rattle.script_session.specs.TransformChanges.{Changes}
+use Rattle.script_session.specs.EndOfInput.{LeadsBy, part, Moves, MovesAll, StopsMoving, PipelinesMatchState, AreAllDelivered, AllDelivered, place_of, EndsWith, AnswersEnd, AnswersEndBeside, EndsDelivered, EndsShut}
+use Rattle.script_session.specs.PerformedDialogue.{StopsIn}
 use Rattle.script_session.specs.Keyed.{held_as, delivering}
 use Rattle.script_session.specs.States.{State, SameLocks, ReferencesMatch, PipelinesMatch, HasPipe, is_at, owners}
-use Rattle.script_session.specs.Telling.{callback_said}
+use Rattle.script_session.specs.CallbackText.{callback_said}
 use Rattle.script_session.proofs.Arms.{viewed}
 use Rattle.script_session.proofs.Changing.{IsOn, changes-pipe, changes-kept}
 use Rattle.script_session.proofs.Leading.{leads-same, goes-held, drains-some, drains-same}

@@ -11,26 +11,26 @@ use Rattle.board.specs.declared.entry.Shape.{Shape}
 use Rattle.reply_text.specs.declared.answers.Answer.{Answer}
 use Rattle.reply_text.specs.declared.answers.Answer.TheVariants as said
 use Rattle.templates.specs.declared.driver_plans.Plan.{Plan}
-use Rattle.templates.specs.Looking.{Found, Entry, Fault}
+use Rattle.templates.specs.LookResults.{Found, Entry, Fault}
 use Rattle.transforms.specs.declared.ask.Ask.{Ask}
 use Rattle.turn_lock.specs.Turns.{Known}
 use Rattle.dialogues.specs.Names.{plan_for}
 use Rattle.dialogues.specs.RegistryCalls.{RegCall, Looks, Gets}
-use Rattle.dialogues.specs.Allocating.{binds, binds_plan, creates, is_chained, shape_for, new_pipe, new_live, and_live}
+use Rattle.dialogues.specs.AllocAndFree.{binds, binds_plan, creates, is_chained, shape_for, new_pipe, new_live, and_live}
 use Rattle.dialogues.specs.BoardCalls.{BoardCall, Creates}
 use Rattle.dialogues.specs.Dialogues.{Dialogue, says, unless}
 use Rattle.dialogues.specs.First.{BeginsBy}
 use Rattle.dialogues.proofs.First.{begins-none, begins-posts}
 use Rattle.dialogues.specs.Questions.{Look, Get, Create}
 use Rattle.dialogues.specs.ScriptState.{ScriptState, Live, PipelineState}
-use Rattle.recorded_calls.specs.Asking.{Asked, Asks, SeesMore, SeesLook, Finds}
+use Rattle.recorded_calls.specs.RegistryCalls.{Asked, Asks, SeesMore, SeesLook, Finds}
 use Rattle.recorded_calls.specs.Passes.{RegPass, BoardPass, known, lock_of}
 use Rattle.recorded_calls.specs.Pipelines.{Called}
 use Rattle.recorded_calls.proofs.Boarding.{starts-same, starts-trans}
-use Rattle.script_session.specs.Breaking.{Breaks, CallsOn, StopsMaking}
-use Rattle.script_session.specs.Creating.{Created, CreatedLive}
-use Rattle.script_session.specs.Finding.{looks, MakesLive, AddsLive}
-use Rattle.script_session.specs.Performing.{HasSeenMore, SeesOn, Done, Performs, Stops, StopsIn}
+use Rattle.script_session.specs.BrokenOff.{Breaks, CallsOn, StopsMaking}
+use Rattle.script_session.specs.Creation.{Created, CreatedLive}
+use Rattle.script_session.specs.Alloc.{looks, MakesLive, AddsLive}
+use Rattle.script_session.specs.PerformedDialogue.{HasSeenMore, SeesOn, Done, Performs, Stops, StopsIn}
 use Rattle.script_session.specs.States.{State, ReferencesMatch, PipelinesMatch, uses}
 use Rattle.script_session.proofs.Arms.{viewed, sees-same, called-sees}
 use Rattle.script_session.proofs.Creating.{created-posted}

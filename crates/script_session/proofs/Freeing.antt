@@ -10,17 +10,17 @@ use Rattle.reply_text.specs.declared.answers.Answer.TheVariants as said
 use Rattle.transforms.specs.declared.ask.Ask.{Ask}
 use Rattle.turn_lock.specs.Turns.{Known}
 use Rattle.dialogues.specs.RegistryCalls.{Puts}
-use Rattle.dialogues.specs.Allocating.{free, closes, releases}
+use Rattle.dialogues.specs.AllocAndFree.{free, closes, releases}
 use Rattle.dialogues.specs.Dialogues.{Dialogue, Posts, says, answers_errno, for_live, missing}
 use Rattle.dialogues.specs.Questions.{Put, Close}
 use Rattle.dialogues.specs.ScriptState.{ScriptState, Live, PipelineState, live_of, shared_of, without}
 use Rattle.board.specs.Legal.{LegalBoard}
-use Rattle.script_session.specs.Changing.{close_calls, has_undelivered, Released}
+use Rattle.script_session.specs.TransformChanges.{close_calls, has_undelivered, Released}
 use Rattle.recorded_calls.proofs.Boarding.{called-more}
 use Rattle.script_session.specs.States.{ReferencesMatch, PipelinesMatch}
-use Rattle.recorded_calls.specs.Asking.{Asked}
+use Rattle.recorded_calls.specs.RegistryCalls.{Asked}
 use Rattle.recorded_calls.specs.Pipelines.{Called}
-use Rattle.script_session.specs.Performing.{Done}
+use Rattle.script_session.specs.PerformedDialogue.{Done}
 use Rattle.script_session.proofs.Arms.{unless-not, unless-so}
 use Rattle.script_session.proofs.Rules.{says-done, asks-done, posts-done}
 

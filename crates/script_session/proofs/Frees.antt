@@ -2,13 +2,13 @@
 use Rattle.std.proofs.Common.{◌≡◌, ℕ, false, List, [], ◌∷◌, ◌++◌, Option, sym, ap, subst, ◌∙◌, arith}
 use Rattle.reply_text.specs.declared.answers.Answer.{Answer}
 use Rattle.reply_text.specs.declared.answers.Answer.TheVariants as said
-use Rattle.dialogues.specs.Allocating.{free, lists_beside}
+use Rattle.dialogues.specs.AllocAndFree.{free, lists_beside}
 use Rattle.dialogues.specs.RegistryCalls.{Puts}
 use Rattle.dialogues.specs.ScriptState.{ScriptState, Live, without, removed}
-use Rattle.recorded_calls.specs.Asking.{Asks}
+use Rattle.recorded_calls.specs.RegistryCalls.{Asks}
 use Rattle.recorded_calls.specs.Passes.{RegPass, BoardPass, known, lock_of}
-use Rattle.script_session.specs.Changing.{has_undelivered, Released}
-use Rattle.script_session.specs.Performing.{Done, Performs}
+use Rattle.script_session.specs.TransformChanges.{has_undelivered, Released}
+use Rattle.script_session.specs.PerformedDialogue.{Done, Performs}
 use Rattle.script_session.specs.States.{State, ReferencesMatch, PipelinesMatch, MadeWide}
 use Rattle.script_session.proofs.Arms.{viewed}
 use Rattle.script_session.proofs.Changing.{label-of, released-posted}

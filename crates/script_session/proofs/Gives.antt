@@ -17,20 +17,20 @@ use Rattle.transforms.specs.declared.ask.Ask.{Ask}
 use Rattle.transforms.specs.AskValue.{ask_size}
 use Rattle.turn_lock.specs.Turns.{Known, StartsWith}
 use Rattle.dialogues.specs.BoardCalls.{BoardCall, Submits, Enqueues, asked_by}
-use Rattle.dialogues.specs.Allocating.{lists_beside}
+use Rattle.dialogues.specs.AllocAndFree.{lists_beside}
 use Rattle.dialogues.specs.Dialogues.{Dialogue, says, for_live, with_either}
 use Rattle.dialogues.specs.First.{BeginsBy}
-use Rattle.dialogues.specs.Requesting.{requests_in, hands_in}
+use Rattle.dialogues.specs.RequestCommands.{requests_in, hands_in}
 use Rattle.dialogues.specs.Transcripts.{Transcript, IsTranscript}
 use Rattle.dialogues.specs.ScriptState.{ScriptState, Live, PipelineState, is_of, live_of, shared_of, either, either_of, with_live, replaced}
 use Rattle.recorded_calls.specs.Pipelines.{Unchanged, entered_asks, with_ask}
-use Rattle.recorded_calls.specs.Sharing.{Gave, SharedStaysKnown}
+use Rattle.recorded_calls.specs.SharedCalls.{Gave, SharedStaysKnown}
 use Rattle.recorded_calls.specs.Passes.{RegPass, BoardPass, known, lock_of}
 use Rattle.recorded_calls.proofs.Boarding.{kept-same}
-use Rattle.script_session.specs.Changing.{counting, asks_if}
-use Rattle.script_session.specs.Performing.{Done, Performs, StopsIn}
-use Rattle.script_session.specs.Offering.{IsAnswerOf, offer_call, entered_said}
-use Rattle.script_session.specs.Sharing.{OffersShared, GivesFor, StopsGiving}
+use Rattle.script_session.specs.TransformChanges.{counting, asks_if}
+use Rattle.script_session.specs.PerformedDialogue.{Done, Performs, StopsIn}
+use Rattle.script_session.specs.Offers.{IsAnswerOf, offer_call, entered_said}
+use Rattle.script_session.specs.SharedTransforms.{OffersShared, GivesFor, StopsGiving}
 use Rattle.script_session.specs.States.{State, counted, HasPipe, HasShared, AreShared, MadeWide, PipelinesMatch, ReferencesMatch}
 use Rattle.script_session.proofs.Arms.{viewed}
 use Rattle.script_session.proofs.Changing.{IsOn}

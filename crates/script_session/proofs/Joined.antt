@@ -10,31 +10,31 @@ use Rattle.board.specs.declared.entry.BoardEntry.{BoardEntry}
 use Rattle.board.specs.declared.entry.BoardEntry.TheVariants as event
 use Rattle.board.specs.Alone.{PeersGone}
 use Rattle.board.specs.Entries.{is_of, entries_of, submissions, front, is_closed, caller_of}
-use Rattle.board.specs.Handing.{completions}
+use Rattle.board.specs.HandedOut.{completions}
 use Rattle.board.specs.Legal.{MayManage, LegalBoard, is_shut}
 use Rattle.board.specs.Order.{handed_out, completed, numbers_below}
-use Rattle.board.specs.Staying.{IsDrained}
+use Rattle.board.specs.PipelineHistory.{IsDrained}
 use Rattle.reply_text.specs.Answers.{text_of}
 use Rattle.reply_text.specs.declared.answers.Answer.{Answer}
 use Rattle.transforms.specs.declared.ask.Ask.{Ask}
 use Rattle.transforms.specs.declared.request.Finished.{Finished}
-use Rattle.turn_lock.specs.Meeting.{AtTurn, Enters, Leaves, IsOwn}
+use Rattle.turn_lock.specs.PassLaws.{AtTurn, Enters, Leaves, IsOwn}
 use Rattle.turn_lock.specs.Turns.{Known, Has, sees}
 use Rattle.dialogues.specs.BoardCalls.{BoardCall, Goes, Collects, Shuts, origin_of}
 use Rattle.dialogues.specs.Dialogues.{Dialogue, Ends, Posts}
-use Rattle.dialogues.specs.Piping.{lets_go, let_all_go, drains_at_end, drain_all, end_said, said_at_end, notice_said}
+use Rattle.dialogues.specs.PipelineCommands.{lets_go, let_all_go, drains_at_end, drain_all, end_said, said_at_end, notice_said}
 use Rattle.dialogues.specs.Questions.{Shut}
 use Rattle.dialogues.specs.Transcripts.{IsTranscript}
 use Rattle.dialogues.specs.ScriptState.{Live, PipelineState}
 use Rattle.recorded_calls.specs.Pipelines.{Owns, Unchanged, IsShut, notice_by}
-use Rattle.recorded_calls.specs.Sharing.{SharingLaws, KnowsLent, KnowsGathered, HaveEnded, Rejoined, Rejoins, Beside, Gathers, DrainedLent, GatheredHandsAll}
+use Rattle.recorded_calls.specs.SharedCalls.{SharingLaws, KnowsLent, KnowsGathered, HaveEnded, Rejoined, Rejoins, Beside, Gathers, DrainedLent, GatheredHandsAll}
 use Rattle.recorded_calls.proofs.Boarding.{kept-same, called-more}
-use Rattle.script_session.specs.Changing.{AreApart}
-use Rattle.script_session.specs.Ending.{LeadsBy, EndsShut}
-use Rattle.script_session.specs.Gathering.{IsJoined, EndsFirst, StopsFirst, GoesBeside, SeesBeside, HasFreed, HasDelivered, MovesLent, MovesAllLent, AreToMove, EndsLent}
-use Rattle.script_session.specs.Lending.{HasLent}
+use Rattle.script_session.specs.TransformChanges.{AreApart}
+use Rattle.script_session.specs.EndOfInput.{LeadsBy, EndsShut}
+use Rattle.script_session.specs.SharedEnd.{IsJoined, EndsFirst, StopsFirst, GoesBeside, SeesBeside, HasFreed, HasDelivered, MovesLent, MovesAllLent, AreToMove, EndsLent}
+use Rattle.script_session.specs.Loans.{HasLent}
 use Rattle.script_session.specs.States.{is_at, owners}
-use Rattle.script_session.specs.Telling.{callback_said}
+use Rattle.script_session.specs.CallbackText.{callback_said}
 use Rattle.script_session.proofs.Arms.{called-sees, kept-sees}
 use Rattle.script_session.proofs.Changing.{first-free, rest-free, apart-of, beside}
 use Rattle.script_session.proofs.Ended.{HandingAllDrains}

@@ -4,12 +4,12 @@ use Rattle.std.specs.Prelude.{if◌then◌else◌}
 use Rattle.reply_text.specs.declared.answers.Answer.{Answer}
 use Rattle.dialogues.specs.BoardCalls.{BoardCall, Notice, Goes, Collects}
 use Rattle.dialogues.specs.Dialogues.{Dialogue, Says, Posts}
-use Rattle.dialogues.specs.Piping.{lets_go, let_all_go, drains_at_end, drain_all, said_at_end}
+use Rattle.dialogues.specs.PipelineCommands.{lets_go, let_all_go, drains_at_end, drain_all, said_at_end}
 use Rattle.dialogues.specs.Questions.{Go, Drain}
 use Rattle.dialogues.specs.Transcripts.{joined, transcript_of}
 use Rattle.dialogues.specs.ScriptState.{Live, PipelineState}
 use Rattle.dialogues.proofs.Leading.{joined-assoc}
-use Rattle.script_session.specs.Ending.{LeadsBy, part, place_of}
+use Rattle.script_session.specs.EndOfInput.{LeadsBy, part, place_of}
 
 pub leads-nothing : LeadsBy (λ rest. rest) [] []
 leads-nothing = λ rest r b. refl

@@ -10,15 +10,15 @@ use Rattle.turn_lock.specs.Turns.{Known}
 use Rattle.dialogues.specs.BoardCalls.{Shares}
 use Rattle.dialogues.specs.Dialogues.{Dialogue, Posts}
 use Rattle.dialogues.specs.Questions.{Share}
-use Rattle.dialogues.specs.Sharing.{shares, share_all}
+use Rattle.dialogues.specs.SharedTransforms.{shares, share_all}
 use Rattle.dialogues.specs.ScriptState.{Live, PipelineState}
 use Rattle.recorded_calls.specs.Pipelines.{Called, Unchanged}
-use Rattle.recorded_calls.specs.Sharing.{KnowsLent, Lends}
+use Rattle.recorded_calls.specs.SharedCalls.{KnowsLent, Lends}
 use Rattle.recorded_calls.proofs.Boarding.{kept-same, called-more}
-use Rattle.script_session.specs.Changing.{AreApart}
-use Rattle.script_session.specs.Ending.{PipelinesMatchState}
-use Rattle.script_session.specs.Performing.{SeesOn}
-use Rattle.script_session.specs.Lending.{HasLent, SharesOne, SharesAll}
+use Rattle.script_session.specs.TransformChanges.{AreApart}
+use Rattle.script_session.specs.EndOfInput.{PipelinesMatchState}
+use Rattle.script_session.specs.PerformedDialogue.{SeesOn}
+use Rattle.script_session.specs.Loans.{HasLent, SharesOne, SharesAll}
 use Rattle.script_session.specs.States.{HasPipe, owners}
 use Rattle.script_session.proofs.Arms.{sees-same, called-sees}
 use Rattle.script_session.proofs.Changing.{IsOn, apart-of, beside, others-stay}

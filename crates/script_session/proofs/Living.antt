@@ -16,18 +16,18 @@ use Rattle.reply_text.specs.declared.answers.Answer.{Answer}
 use Rattle.transforms.specs.declared.ask.Ask.{Ask}
 use Rattle.transforms.specs.AskValue.{ask_size}
 use Rattle.turn_lock.specs.Turns.{Known}
-use Rattle.dialogues.specs.Allocating.{lists_beside}
+use Rattle.dialogues.specs.AllocAndFree.{lists_beside}
 use Rattle.dialogues.specs.Dialogues.{Dialogue, for_live, with_either}
 use Rattle.dialogues.specs.First.{BeginsBy}
 use Rattle.dialogues.specs.ScriptState.{ScriptState, Live, is_of, live_of, shared_of, either, either_of, with_live, replaced, removed}
 use Rattle.script_session.specs.States.{State, counted, HasPipe, PipelinesMatch, ReferencesMatch, MadeWide}
 use Rattle.recorded_calls.specs.Passes.{RegPass, BoardPass, known, lock_of}
 use Rattle.recorded_calls.specs.Pipelines.{Called}
-use Rattle.script_session.specs.Changing.{PerformsFor, StopsFor, counting, asks_if}
+use Rattle.script_session.specs.TransformChanges.{PerformsFor, StopsFor, counting, asks_if}
 use Rattle.script_session.specs.Filed.{AreFiled, lives_of, number_of}
 use Rattle.script_session.specs.declared.lives.LiveTransforms.{LiveTransforms}
-use Rattle.script_session.specs.Performing.{Done, Performs, StopsIn}
-use Rattle.script_session.specs.Saying.{SaysFor, BreaksFor, SaysBy, BreaksOff}
+use Rattle.script_session.specs.PerformedDialogue.{Done, Performs, StopsIn}
+use Rattle.script_session.specs.ReplyText.{SaysFor, BreaksFor, SaysBy, BreaksOff}
 use Rattle.script_session.proofs.Arms.{viewed}
 use Rattle.script_session.proofs.Changing.{IsOn, All-right, label-of, live-done}
 use Rattle.script_session.proofs.Filed.{place-at, nobody-at, get-found, set-found, removed-found}

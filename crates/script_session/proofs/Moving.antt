@@ -15,9 +15,9 @@ use Rattle.dialogues.specs.BoardCalls.{BoardCall}
 use Rattle.dialogues.specs.Dialogues.{Dialogue}
 use Rattle.dialogues.specs.ScriptState.{Live}
 use Rattle.recorded_calls.proofs.Boarding.{kept-same, called-more, starts-trans}
-use Rattle.script_session.specs.Changing.{Changes, counting}
-use Rattle.script_session.specs.Ending.{Moves, MovesAll, StopsMoving, PipelinesMatchState, AreAllDelivered, AllDelivered, place_of}
-use Rattle.script_session.specs.Performing.{SeesOn}
+use Rattle.script_session.specs.TransformChanges.{Changes, counting}
+use Rattle.script_session.specs.EndOfInput.{Moves, MovesAll, StopsMoving, PipelinesMatchState, AreAllDelivered, AllDelivered, place_of}
+use Rattle.script_session.specs.PerformedDialogue.{SeesOn}
 use Rattle.script_session.specs.States.{HasPipe}
 use Rattle.script_session.proofs.Changing.{IsOn, All-right, list-posted}
 use Rattle.script_session.proofs.Leading.{leads-then, leads-same, leads-nothing}

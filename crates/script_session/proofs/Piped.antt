@@ -9,7 +9,7 @@ use Rattle.kc_base.specs.declared.error_numbers.Errno.{Errno}
 use Rattle.kc_base.specs.declared.error_numbers.Errno.TheVariants.{EINVAL, E2BIG, EBUSY, EINPROGRESS, ENOSPC}
 use Rattle.board.specs.declared.entry.BoardEntry.{BoardEntry}
 use Rattle.board.specs.Entries.{entries_of, submissions}
-use Rattle.board.specs.Handing.{HandsOutAtMost, completions}
+use Rattle.board.specs.HandedOut.{HandsOutAtMost, completions}
 use Rattle.board.specs.Legal.{LegalBoard}
 use Rattle.board.specs.declared.board_core.BoardErr.{BoardErr}
 use Rattle.board.specs.declared.board_core.BoardErr.TheVariants as board_err
@@ -26,25 +26,25 @@ use Rattle.board.specs.declared.entry.Entered.{Entered}
 use Rattle.board.specs.declared.entry.Entered.TheVariants.{InProgress, Busy, NoSpace}
 use Rattle.transforms.specs.AskValue.{ask_size}
 use Rattle.dialogues.specs.BoardCalls.{Asked, asked_by, origin_of, Collects, Submits, Enqueues, Masks, BoardCall}
-use Rattle.dialogues.specs.Requesting.{set_key, set_tag_size, value_said, requests_in, hands_in, is_too_big, accepting, value_of}
+use Rattle.dialogues.specs.RequestCommands.{set_key, set_tag_size, value_said, requests_in, hands_in, is_too_big, accepting, value_of}
 use Rattle.script_session.specs.Keyed.{manned_as, held_as, delivering, with_line, MayDeliver}
-use Rattle.script_session.specs.Saying.{collects, collected_said}
+use Rattle.script_session.specs.ReplyText.{collects, collected_said}
 use Rattle.script_session.specs.Settings.{holds_or_goes, hold_call, sets}
 use Rattle.script_session.specs.declared.settings.Setting.{Setting}
 use Rattle.script_session.specs.declared.settings.Setting.TheVariants as set
-use Rattle.script_session.specs.Offering.{IsAnswerOf, Offered, offer_call, entered_said}
+use Rattle.script_session.specs.Offers.{IsAnswerOf, Offered, offer_call, entered_said}
 use Rattle.recorded_calls.specs.Pipelines.{IsPad, IsQueue, Polled, entered_pipe, entered_asks, with_ask, Unchanged, Changed, notice_by, Drained}
 use Rattle.transforms.specs.Plans.{takes_key, takes_tag}
 use Rattle.transforms.specs.declared.tfm_err.TfmErr.{TfmErr}
 use Rattle.transforms.specs.declared.tfm_err.TfmErr.TheVariants.{Inval, Memory as OfMemory}
-use Rattle.script_session.specs.Telling.{callback_said}
+use Rattle.script_session.specs.CallbackText.{callback_said}
 use Rattle.dialogues.specs.Dialogues.{Dialogue, says, answers_errno, for_live, missing, with_label, Posts}
 use Rattle.dialogues.specs.Questions.{Drain, Hold, Go}
-use Rattle.dialogues.specs.Piping.{mask, masks, kept_bits, with_pad, if_pad, with_queue, if_queue, poll, polls_in, notice_said, tells, drain, drains_in, completions as completed_in}
+use Rattle.dialogues.specs.PipelineCommands.{mask, masks, kept_bits, with_pad, if_pad, with_queue, if_queue, poll, polls_in, notice_said, tells, drain, drains_in, completions as completed_in}
 use Rattle.dialogues.specs.Transcripts.{Transcript, IsTranscript}
 use Rattle.dialogues.specs.ScriptState.{ScriptState, Live, PipelineState, is_of, live_of, shared_of, with_live, with_pipe, replaced}
 use Rattle.script_session.specs.States.{HasPipe, PipelinesMatch, is_at}
-use Rattle.script_session.specs.Changing.{PerformsFor, StopsFor, counting}
+use Rattle.script_session.specs.TransformChanges.{PerformsFor, StopsFor, counting}
 use Rattle.recorded_calls.proofs.Boarding.{kept-same}
 use Rattle.script_session.proofs.Changing.{changes-pipe, changes-kept}
 use Rattle.script_session.proofs.Stopping.{for-held}

@@ -15,13 +15,13 @@ use Rattle.alg_registry.specs.declared.spec.Spec.{Spec}
 use Rattle.alg_registry.specs.Rows.{caller_of}
 use Rattle.board.specs.declared.entry.BoardEntry.{BoardEntry}
 use Rattle.reply_text.specs.declared.answers.Answer.{Answer}
-use Rattle.shared_registry.specs.Building.{IsLook, is_building}
+use Rattle.shared_registry.specs.Builds.{IsLook, is_building}
 use Rattle.shared_registry.specs.Faithful.{IsFaithful}
 use Rattle.shared_registry.specs.Passes.{IsSound}
-use Rattle.templates.specs.Looking.{Found, Fault, found_in}
+use Rattle.templates.specs.LookResults.{Found, Fault, found_in}
 use Rattle.transforms.specs.declared.ask.Ask.{Ask}
-use Rattle.turn_lock.specs.Going.{stays, still_kept, own_goes}
-use Rattle.turn_lock.specs.Meeting.{GoesOn}
+use Rattle.turn_lock.specs.TurnLaws.{stays, still_kept, own_goes}
+use Rattle.turn_lock.specs.PassLaws.{GoesOn}
 use Rattle.turn_lock.specs.Turns.{Known, Has}
 use Rattle.dialogues.specs.Dialogues.{Dialogue, Ends, Says, Asks}
 use Rattle.dialogues.specs.First.{AreFurther, BeginsBy}
@@ -29,19 +29,19 @@ use Rattle.dialogues.specs.GoingOn.{FoundStays, LooksAtOnce, CallsByAre}
 use Rattle.dialogues.proofs.RegistryGrowing.{reg_calls-append}
 use Rattle.dialogues.specs.InTurn.{AreMade}
 use Rattle.dialogues.specs.Names.{name_read}
-use Rattle.dialogues.specs.Probing.{found_said, looks_up, looks_all, probe}
+use Rattle.dialogues.specs.Probe.{found_said, looks_up, looks_all, probe}
 use Rattle.dialogues.specs.Questions.{Look}
 use Rattle.dialogues.specs.RegistryCalls.{RegCall, Looks, reg_calls, AllSettled}
 use Rattle.dialogues.specs.Transcripts.{Transcript, transcript_of}
 use Rattle.dialogues.specs.ScriptState.{ScriptState, Live}
-use Rattle.recorded_calls.specs.Asking.{AskedBy, IsCaller}
-use Rattle.recorded_calls.specs.Looking.{Sought, Goes, Builds, look_entry, found_result}
+use Rattle.recorded_calls.specs.RegistryCalls.{AskedBy, IsCaller}
+use Rattle.recorded_calls.specs.Looks.{Sought, Goes, Builds, look_entry, found_result}
 use Rattle.recorded_calls.specs.Passes.{RegPass, BoardPass, known}
 use Rattle.recorded_calls.proofs.Asking.{further-by}
 use Rattle.recorded_calls.proofs.Looking.{goes-further, goes-more}
-use Rattle.script_session.specs.Breaking.{Breaks}
-use Rattle.script_session.specs.Performing.{DoneBy, PerformsBy, StopsIn}
-use Rattle.script_session.specs.Probing.{Searched, IsRead, AreRead, entry_of, look_entries, MaySettle, LooksFirst, LooksSome, comes_to, AreSaid, SettlesThen}
+use Rattle.script_session.specs.BrokenOff.{Breaks}
+use Rattle.script_session.specs.PerformedDialogue.{DoneBy, PerformsBy, StopsIn}
+use Rattle.script_session.specs.Probe.{Searched, IsRead, AreRead, entry_of, look_entries, MaySettle, LooksFirst, LooksSome, comes_to, AreSaid, SettlesThen}
 use Rattle.script_session.specs.States.{State, ReferencesMatch, PipelinesMatch, uses}
 use Rattle.script_session.proofs.Arms.{viewed, sees-same}
 use Rattle.script_session.proofs.Breaking.{stops-in}

@@ -5,7 +5,7 @@ use Rattle.kc_base.specs.declared.error_numbers.Errno.TheVariants.{EINVAL, ENOKE
 use Rattle.transforms.specs.declared.request.Request.{Request}
 use Rattle.dialogues.specs.BoardCalls.{Asked, origin_by}
 use Rattle.dialogues.specs.Dialogues.{Dialogue, answers_errno}
-use Rattle.dialogues.specs.Requesting.{requests_in, requests_under, asked_of}
+use Rattle.dialogues.specs.RequestCommands.{requests_in, requests_under, asked_of}
 use Rattle.dialogues.specs.ScriptState.{ScriptState, Live}
 use Rattle.script_session.specs.Keyed.{IsJobUnder, IsNotTaken, asked_by_client}
 

@@ -21,8 +21,8 @@ use Rattle.reply_text.specs.declared.answers.Answer.TheVariants as said
 use Rattle.reply_text.specs.declared.origin.Origin.{Origin}
 use Rattle.reply_text.specs.Origins.{origin_word}
 use Rattle.recorded_calls.specs.Bounds.{callback_length, AreWithin}
-use Rattle.script_session.specs.Saying.{callback_room, collected_said}
-use Rattle.script_session.specs.Telling.{callback_said}
+use Rattle.script_session.specs.ReplyText.{callback_room, collected_said}
+use Rattle.script_session.specs.CallbackText.{callback_said}
 
 -- ---- lines
 

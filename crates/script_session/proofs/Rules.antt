@@ -15,12 +15,12 @@ use Rattle.dialogues.specs.ScriptState.{ScriptState}
 use Rattle.dialogues.specs.InTurn.{AreInTurnBy, AreCalls}
 use Rattle.dialogues.proofs.Taking.{no_call}
 use Rattle.dialogues.proofs.Grouping.{in_turn-by, by-after}
-use Rattle.recorded_calls.specs.Asking.{IsCaller}
+use Rattle.recorded_calls.specs.RegistryCalls.{IsCaller}
 use Rattle.recorded_calls.proofs.Boarding.{starts-same, called-more}
 use Rattle.script_session.specs.States.{ReferencesMatch, PipelinesMatch}
-use Rattle.recorded_calls.specs.Asking.{Asked}
+use Rattle.recorded_calls.specs.RegistryCalls.{Asked}
 use Rattle.recorded_calls.specs.Pipelines.{Called}
-use Rattle.script_session.specs.Performing.{Done}
+use Rattle.script_session.specs.PerformedDialogue.{Done}
 
 -- ---- what is known goes on
 

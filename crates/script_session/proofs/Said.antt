@@ -9,7 +9,7 @@ use Rattle.kc_base.specs.declared.callback_list.Callback.{Callback}
 use Rattle.kc_base.specs.declared.callback_list.Callback.TheVariants as callback
 use Rattle.board.specs.declared.entry.BoardEntry.{BoardEntry}
 use Rattle.board.specs.Allowance.{accepted_by}
-use Rattle.board.specs.Handing.{completions}
+use Rattle.board.specs.HandedOut.{completions}
 use Rattle.board.specs.declared.board_core.BoardErr.{BoardErr}
 use Rattle.board.specs.declared.board_core.BoardErr.TheVariants as board_err
 use Rattle.board.specs.Legal.{LegalBoard}
@@ -23,18 +23,18 @@ use Rattle.reply_text.specs.declared.origin.Origin.{Origin}
 use Rattle.turn_lock.specs.Turns.{Known}
 use Rattle.dialogues.specs.BoardCalls.{Goes, Collects}
 use Rattle.dialogues.specs.Dialogues.{Dialogue, says}
-use Rattle.dialogues.specs.Piping.{drains_at_end, drain_all, notice_said, end_said}
+use Rattle.dialogues.specs.PipelineCommands.{drains_at_end, drain_all, notice_said, end_said}
 use Rattle.dialogues.specs.ScriptState.{ScriptState, Live, PipelineState, live_of}
 use Rattle.recorded_calls.specs.Bounds.{AreWithin}
 use Rattle.recorded_calls.specs.Passes.{known}
 use Rattle.recorded_calls.specs.Pipelines.{Called, Changed, Unchanged, Polled, Drained, notice_by}
 use Rattle.recorded_calls.proofs.Boarding.{kept-same, called-more}
-use Rattle.script_session.specs.Ending.{Moves, PipelinesMatchState}
-use Rattle.script_session.specs.Performing.{Performs}
+use Rattle.script_session.specs.EndOfInput.{Moves, PipelinesMatchState}
+use Rattle.script_session.specs.PerformedDialogue.{Performs}
 use Rattle.script_session.specs.Keyed.{delivering}
-use Rattle.script_session.specs.Saying.{SaysFor, BreaksFor, SaysBy, BreaksOff, SaysMove, SaysMoves, is_told, call_says, Tells, SaysTold, collects, collected_said, Collected}
+use Rattle.script_session.specs.ReplyText.{SaysFor, BreaksFor, SaysBy, BreaksOff, SaysMove, SaysMoves, is_told, call_says, Tells, SaysTold, collects, collected_said, Collected}
 use Rattle.script_session.specs.States.{State, HasPipe, ReferencesMatch, PipelinesMatch}
-use Rattle.script_session.specs.Telling.{callback_said}
+use Rattle.script_session.specs.CallbackText.{callback_said}
 use Rattle.script_session.proofs.Breaking.{stops-none}
 use Rattle.script_session.proofs.Ended.{drains-last}
 use Rattle.script_session.proofs.Leading.{drain-more}

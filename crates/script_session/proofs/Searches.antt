@@ -8,21 +8,21 @@ use Rattle.alg_registry.specs.declared.entry.RegEntry.{RegEntry}
 use Rattle.alg_registry.specs.declared.entry.RegEntry.TheVariants as entry
 use Rattle.alg_registry.specs.Rows.{caller_of}
 use Rattle.reply_text.specs.declared.answers.Answer.{Answer}
-use Rattle.shared_registry.specs.Building.{is_building}
-use Rattle.templates.specs.Looking.{Found, Fault, found_in}
+use Rattle.shared_registry.specs.Builds.{is_building}
+use Rattle.templates.specs.LookResults.{Found, Fault, found_in}
 use Rattle.turn_lock.specs.Turns.{of}
 use Rattle.dialogues.specs.Dialogues.{Dialogue, Asks}
 use Rattle.dialogues.specs.First.{AreFirstCalls, BeginsBy}
 use Rattle.dialogues.specs.InTurn.{is_look}
 use Rattle.dialogues.specs.Names.{name_read}
-use Rattle.dialogues.specs.Probing.{found_said, looks_up, looks_all}
+use Rattle.dialogues.specs.Probe.{found_said, looks_up, looks_all}
 use Rattle.dialogues.specs.Questions.{Look}
 use Rattle.dialogues.proofs.First.{begins-none, begins-asks}
 use Rattle.dialogues.specs.References.{got, given}
 use Rattle.dialogues.specs.RegistryCalls.{RegCall, Looks, reg_call_of, reg_calls_from, prepend, AllSettled}
-use Rattle.recorded_calls.specs.Looking.{Sought}
+use Rattle.recorded_calls.specs.Looks.{Sought}
 use Rattle.recorded_calls.proofs.Asking.{own}
-use Rattle.script_session.specs.Probing.{Searched, IsRead, AreRead, entry_of, look_entries, comes_to, AreSaid}
+use Rattle.script_session.specs.Probe.{Searched, IsRead, AreRead, entry_of, look_entries, comes_to, AreSaid}
 
 -- ---- the calls that searches are
 

@@ -5,7 +5,7 @@ use Rattle.turn_lock.specs.Turns.{Known}
 use Rattle.dialogues.specs.References.{got, given}
 use Rattle.dialogues.specs.RegistryCalls.{RegCall, reg_calls}
 use Rattle.dialogues.specs.ScriptState.{Live}
-use Rattle.recorded_calls.specs.Asking.{AskedBy, HasReferenceOf}
+use Rattle.recorded_calls.specs.RegistryCalls.{AskedBy, HasReferenceOf}
 use Rattle.script_session.specs.States.{ReferencesMatch, uses}
 use Rattle.script_session.proofs.Placed.{Split, uses-removed}
 

@@ -4,7 +4,7 @@ use Rattle.board.specs.declared.entry.BoardEntry.{BoardEntry}
 use Rattle.board.specs.Legal.{is_shut}
 use Rattle.reply_text.specs.declared.answers.Answer.{Answer}
 use Rattle.transforms.specs.declared.ask.Ask.{Ask}
-use Rattle.turn_lock.specs.Meeting.{IsOwn}
+use Rattle.turn_lock.specs.PassLaws.{IsOwn}
 use Rattle.turn_lock.specs.Turns.{Known}
 use Rattle.alg_registry.specs.Rows.{caller_of as reg_caller}
 use Rattle.dialogues.specs.BoardCalls.{BoardCall}
@@ -17,10 +17,10 @@ use Rattle.dialogues.proofs.First.{begins-none, begins-turn}
 use Rattle.recorded_calls.specs.Passes.{known}
 use Rattle.recorded_calls.specs.Pipelines.{Called, Unchanged}
 use Rattle.recorded_calls.proofs.Boarding.{called-more, starts-same}
-use Rattle.script_session.specs.Changing.{PerformsFor, StopsFor}
-use Rattle.script_session.specs.Ending.{LeadsBy, Moves, StopsMoving}
-use Rattle.script_session.specs.Performing.{HasSeenMore, StopsIn}
-use Rattle.script_session.specs.Sharing.{GivesFor, StopsGiving}
+use Rattle.script_session.specs.TransformChanges.{PerformsFor, StopsFor}
+use Rattle.script_session.specs.EndOfInput.{LeadsBy, Moves, StopsMoving}
+use Rattle.script_session.specs.PerformedDialogue.{HasSeenMore, StopsIn}
+use Rattle.script_session.specs.SharedTransforms.{GivesFor, StopsGiving}
 use Rattle.script_session.specs.States.{State, SameLocks, ReferencesMatch}
 use Rattle.script_session.proofs.Arms.{called-sees}
 use Rattle.script_session.proofs.Rules.{called-nothing}

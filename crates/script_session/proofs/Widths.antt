@@ -15,16 +15,16 @@ use Rattle.board.specs.Legal.{Is}
 use Rattle.board.specs.Shapes.{is_pad, is_born, lists_of, width_born}
 use Rattle.transforms.specs.declared.ask.Ask.{Ask}
 use Rattle.turn_lock.specs.Turns.{Known, StartsWith}
-use Rattle.dialogues.specs.Allocating.{lists_beside, shape_for}
+use Rattle.dialogues.specs.AllocAndFree.{lists_beside, shape_for}
 use Rattle.dialogues.specs.BoardCalls.{BoardCall}
-use Rattle.dialogues.specs.Piping.{kept_bits}
+use Rattle.dialogues.specs.PipelineCommands.{kept_bits}
 use Rattle.dialogues.specs.ScriptState.{Live, PipelineState}
 use Rattle.recorded_calls.specs.Passes.{known}
 use Rattle.recorded_calls.specs.Pipelines.{IsPad, KnowsPipe, Opened, Owns}
-use Rattle.recorded_calls.specs.Sharing.{Gave}
+use Rattle.recorded_calls.specs.SharedCalls.{Gave}
 use Rattle.recorded_calls.proofs.BoardCalls.{open-pad}
-use Rattle.script_session.specs.Changing.{Changes, Released}
-use Rattle.script_session.specs.Creating.{Created}
+use Rattle.script_session.specs.TransformChanges.{Changes, Released}
+use Rattle.script_session.specs.Creation.{Created}
 use Rattle.script_session.specs.States.{State, HasPipe, MadeWide, PadsHaveAListPerWorker, is_at}
 
 -- ---- a pipeline's birth stays

@@ -20,7 +20,8 @@ lives_of lives = values_of lives.transforms.entries
 abbrev pub led_to : LiveTransforms → List ℕ → Option ℕ
 led_to lives label = get_by (λ key. slice_cmp nat_cmp label key.items) lives.labels
 
--- Each label leads to the transform that has it, no two transforms have the same, the numbers ascend, and the next is above all.
+-- Each label leads to the transform that has it, no two transforms have the same, the numbers ascend, and the next is
+-- above all.
 pub record AreFiled (lives : LiveTransforms) : Type 0 where
   pub ascend : IsOrdered nat_cmp lives.transforms
   pub led : (label : List ℕ) → led_to lives label ≡ number_of label lives.transforms.entries

@@ -2,8 +2,8 @@
 use Rattle.std.specs.Prelude.{ℕ, Bool, true, false, List}
 use Rattle.dialogues.specs.BoardCalls.{BoardCall, Holds, Goes}
 use Rattle.dialogues.specs.Dialogues.{Dialogue}
-use Rattle.dialogues.specs.Piping.{mask, hold, go}
-use Rattle.dialogues.specs.Requesting.{set_key, set_tag_size}
+use Rattle.dialogues.specs.PipelineCommands.{mask, hold, go}
+use Rattle.dialogues.specs.RequestCommands.{set_key, set_tag_size}
 use Rattle.dialogues.specs.ScriptState.{ScriptState}
 use Rattle.script_session.specs.declared.settings.Setting.{Setting}
 use Rattle.script_session.specs.declared.settings.Setting.TheVariants as set

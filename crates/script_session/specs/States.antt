@@ -9,14 +9,14 @@ use Rattle.board.specs.Shapes.{is_pad, width_born}
 use Rattle.transforms.specs.declared.ask.Ask.{Ask}
 use Rattle.transforms.specs.AskValue.{ask_size}
 use Rattle.turn_lock.specs.Turns.{Known}
-use Rattle.dialogues.specs.Allocating.{lists_beside}
+use Rattle.dialogues.specs.AllocAndFree.{lists_beside}
 use Rattle.dialogues.specs.References.{got, given}
 use Rattle.dialogues.specs.RegistryCalls.{reg_calls}
 use Rattle.dialogues.specs.ScriptState.{ScriptState, Live, PipelineState}
-use Rattle.recorded_calls.specs.Asking.{IsCaller}
+use Rattle.recorded_calls.specs.RegistryCalls.{IsCaller}
 use Rattle.recorded_calls.specs.Passes.{RegPass, BoardPass, known, lock_of}
 use Rattle.recorded_calls.specs.Pipelines.{KnowsPipe, Owns}
-use Rattle.recorded_calls.specs.Sharing.{KnowsShared}
+use Rattle.recorded_calls.specs.SharedCalls.{KnowsShared}
 
 -- how many live transforms stand on the entry
 abbrev pub uses : ℕ → List Live → ℕ
@@ -50,8 +50,8 @@ abbrev pub owners : ℕ → List Live → ℕ
 owners number [] = 0
 owners number (live ∷ lives) = (if is_at number live.pipe then 1 else 0) + owners number lives
 
--- The live transforms' pipelines are as the caller knows them, no two share one, it has no other that is open, and so many
--- requests and bytes were accepted.
+-- The live transforms' pipelines are as the caller knows them, no two share one, it has no other that is open, and so
+-- many requests and bytes were accepted.
 pub record PipelinesMatch (script_state : ScriptState) (k : Known (BoardEntry Ask)) : Type 0 where
   pub outsider : IsNoWorker k.number
   pub legal : LegalBoard k.seen

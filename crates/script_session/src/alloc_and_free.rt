@@ -4,18 +4,18 @@ ghost use Rattle.std.specs.Prelude.{◌≡◌, ◌≤◌, [], MatchResult, IsSom
 ghost use Rattle.alg_names.specs.Name.{spelling};
 ghost use Rattle.alg_registry.specs.declared.spec.Spec.{Spec as Algorithm};
 ghost use Rattle.alg_registry.specs.Rows.{registered};
-ghost use Rattle.templates.specs.Looking.{Entry};
+ghost use Rattle.templates.specs.LookResults.{Entry};
 ghost use Rattle.templates.specs.Nesting.{is_nested_well};
-ghost use Rattle.dialogues.specs.Allocating.{alloc, binds, binds_plan, free, is_chained, shape_for};
+ghost use Rattle.dialogues.specs.AllocAndFree.{alloc, binds, binds_plan, free, is_chained, shape_for};
 ghost use Rattle.dialogues.specs.Names.{is_queue_length};
 ghost use Rattle.dialogues.specs.ScriptState.{live_of};
 ghost use Rattle.board.specs.Legal.{IsNoWorker};
-ghost use Rattle.script_session.specs.Breaking.{CallsOn, StopsMaking};
-ghost use Rattle.script_session.specs.Creating.{CreatedLive};
-ghost use Rattle.script_session.specs.Finding.{looks, MakesLive, AddsLive};
+ghost use Rattle.script_session.specs.BrokenOff.{CallsOn, StopsMaking};
+ghost use Rattle.script_session.specs.Creation.{CreatedLive};
+ghost use Rattle.script_session.specs.Alloc.{looks, MakesLive, AddsLive};
 ghost use Rattle.recorded_calls.specs.Passes.{CallsRegistry, known, lock_of, CallsBoard};
 ghost use Rattle.script_session.specs.States.{ReferencesMatch, PipelinesMatch};
-ghost use Rattle.script_session.specs.Performing.{Performs, StopsIn};
+ghost use Rattle.script_session.specs.PerformedDialogue.{Performs, StopsIn};
 
 use crate::answers::{answer_errno, say};
 use crate::name_limits::{fits_queue, plan_with, read_name};

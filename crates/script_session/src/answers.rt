@@ -3,8 +3,8 @@
 ghost use Rattle.std.specs.Prelude.{◌≡◌, ◌++◌, ◌∷◌, [], ℕ, Option as Perhaps, is_some, length, take, OnOk, OnErr};
 ghost use Rattle.std.specs.List.{flat_map};
 ghost use Rattle.reply_text.specs.Answers.{text_of};
-ghost use Rattle.dialogues.specs.Registering.{enlist_said, unlist_said, refs_said};
-ghost use Rattle.dialogues.specs.Requesting.{value_said};
+ghost use Rattle.dialogues.specs.RegistryCommands.{enlist_said, unlist_said, refs_said};
+ghost use Rattle.dialogues.specs.RequestCommands.{value_said};
 ghost use Rattle.transforms.specs.Finish.{finished_value};
 
 use alg_registry::{Enlisted, RefAnswer};

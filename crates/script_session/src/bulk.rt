@@ -4,7 +4,7 @@ ghost use Rattle.std.specs.Prelude.{◌≡◌, ◌<◌, ◌≤◌, ◌^◌, ℕ,
 ghost use Rattle.dialogues.specs.Bulk.{bulk, bulk_counter, bulk_digest as digest_of, bulk_said, bulk_text, is_ctr};
 ghost use Rattle.reply_text.specs.declared.answers.Answer.TheVariants.{Refused};
 ghost use Rattle.recorded_calls.specs.Passes.{known};
-ghost use Rattle.script_session.specs.Performing.{Performs, StopsIn};
+ghost use Rattle.script_session.specs.PerformedDialogue.{Performs, StopsIn};
 ghost use Rattle.script_session.specs.States.{ReferencesMatch, PipelinesMatch};
 ghost use Rattle.transforms.specs.Forms.{key_of};
 
@@ -29,8 +29,8 @@ const MOST_BYTES: u32 = 16_777_216;
 /// The bytes that are worth a thread.
 const MIN_CHUNK: u64 = 4_096;
 
-// The cipher of a transform that computes CTR and has no pipeline. Why there is none is what `bulk` is refused by, whatever its
-// size.
+// The cipher of a transform that computes CTR and has no pipeline. Why there is none is what `bulk` is refused by,
+// whatever its size.
 fn ctr_cipher(live: &Transform) -> Result<&AnyAes, Errno>
     ensures { MatchResult result
         (λ cipher. (is_ctr live.now.plan live.now.pipe ≡ true) × (live.now.key ≡ Some (key_of cipher.now)))

@@ -2,12 +2,12 @@
 
 ghost use Rattle.std.specs.Prelude.{◌≡◌, ◌+◌, ◌*◌, ◌≤◌, ◌++◌, ◌∷◌, [], length, map, sum_by, OnOk};
 ghost use Rattle.std.specs.List.{flat_map};
-ghost use Rattle.board.specs.Handing.{completions};
-ghost use Rattle.dialogues.specs.Piping.{completion_said};
+ghost use Rattle.board.specs.HandedOut.{completions};
+ghost use Rattle.dialogues.specs.PipelineCommands.{completion_said};
 ghost use Rattle.reply_text.specs.Answers.{text_of};
 ghost use Rattle.transforms.specs.Finish.{finished_length};
-ghost use Rattle.script_session.specs.Saying.{callback_room};
-ghost use Rattle.script_session.specs.Telling.{callback_said};
+ghost use Rattle.script_session.specs.ReplyText.{callback_room};
+ghost use Rattle.script_session.specs.CallbackText.{callback_said};
 
 use kc_base::{Callback, Callbacks, Errno};
 use recorded_calls::RequestLines;

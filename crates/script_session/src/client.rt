@@ -3,8 +3,8 @@
 ghost use Rattle.std.specs.Prelude.{◌≡◌, Some, OnOk, MatchResult};
 ghost use Rattle.std.specs.Arc.{arc_value};
 ghost use Rattle.dialogues.specs.ScriptState.{start_beside};
-ghost use Rattle.script_session.specs.Ending.{AnswersEndBeside, EndsDelivered};
-ghost use Rattle.script_session.specs.Performing.{Stops};
+ghost use Rattle.script_session.specs.EndOfInput.{AnswersEndBeside, EndsDelivered};
+ghost use Rattle.script_session.specs.PerformedDialogue.{Stops};
 ghost use Rattle.script_session.specs.States.{ReferencesMatch, PipelinesMatch};
 ghost use Rattle.recorded_calls.specs.Passes.{known, CallsBoard};
 
@@ -24,8 +24,8 @@ use std::sync::{Arc, Wait};
 use transforms::{Ask, Job};
 
 impl Session {
-    /// The script of a client beside others, with whom it shares these transforms; it has made nothing. So many workers stand beside
-    /// it. No memory is taken.
+    /// The script of a client beside others, with whom it shares these transforms; it has made nothing. So many workers
+    /// stand beside it. No memory is taken.
     pub fn client(
         alloc: Global,
         workers: u32,
@@ -54,9 +54,9 @@ impl Session {
         }
     }
 
-    /// Answers the end of input of a client, as `end` does but that the board stays open for the others: held queues are let go, and
-    /// each live transform of the client's own is drained, both in order of allocation. No line comes after it. `Stop` comes for want
-    /// of memory alone.
+    /// Answers the end of input of a client, as `end` does but that the board stays open for the others: held queues
+    /// are let go, and each live transform of the client's own is drained, both in order of allocation. No line comes
+    /// after it. `Stop` comes for want of memory alone.
     pub fn end_client<R: Wait, G: Gate>(
         &mut self,
         rt: &R,

@@ -1,14 +1,14 @@
-//! Collects whose text goes straight into a reply. The room for the whole text is taken before the call on the board, from what the
-//! script's requests asked: whatever a pipeline handed out is in the reply.
+//! Collects whose text goes straight into a reply. The room for the whole text is taken before the call on the board,
+//! from what the script's requests asked: whatever a pipeline handed out is in the reply.
 
 ghost use Rattle.std.specs.Prelude.{◌≡◌, ◌+◌, ◌≤◌, ◌++◌, ◌&&◌, length, MatchResult, OnOk, sum_by};
 ghost use Rattle.std.specs.List.{flat_map};
 ghost use Rattle.board.specs.Allowance.{accepted_by};
 ghost use Rattle.board.specs.Legal.{LegalBoard};
 ghost use Rattle.reply_text.specs.Answers.{text_of};
-ghost use Rattle.dialogues.specs.Piping.{drains_at_end, drain_all, end_said};
-ghost use Rattle.script_session.specs.Ending.{PipelinesMatchState, AreAllDelivered, AllDelivered, StopsMoving};
-ghost use Rattle.script_session.specs.Saying.{SaysFor, SaysBy, BreaksFor, BreaksOff, SaysMove, SaysMoves, SaysTold, collects, collected_said, Collected};
+ghost use Rattle.dialogues.specs.PipelineCommands.{drains_at_end, drain_all, end_said};
+ghost use Rattle.script_session.specs.EndOfInput.{PipelinesMatchState, AreAllDelivered, AllDelivered, StopsMoving};
+ghost use Rattle.script_session.specs.ReplyText.{SaysFor, SaysBy, BreaksFor, BreaksOff, SaysMove, SaysMoves, SaysTold, collects, collected_said, Collected};
 ghost use Rattle.script_session.specs.States.{HasPipe, ReferencesMatch, PipelinesMatch};
 ghost use Rattle.recorded_calls.specs.Passes.{known, lock_of, CallsBoard};
 ghost use Rattle.recorded_calls.specs.Pipelines.{KnowsPipe, Unchanged};
@@ -71,8 +71,8 @@ fn collected(line: u32, waits: bool, count: u64) -> Answer
     }
 }
 
-// `drain T` of a transform, or `poll T` without `waits`, whose text is added to a reply, where all requests of the script ask so
-// many bytes. Where it stops, the board wasn't called, but jobs that there were may have been done.
+// `drain T` of a transform, or `poll T` without `waits`, whose text is added to a reply, where all requests of the
+// script ask so many bytes. Where it stops, the board wasn't called, but jobs that there were may have been done.
 fn collect_live<R: Wait, G: Gate>(
     rt: &R,
     alloc: Global,
@@ -170,7 +170,8 @@ fn put_end(reply: &mut Reply, label: &[u8], count: u64)
     let _ = reply.put_end(label, count);
 }
 
-// Does what jobs there are until those of a transform's pipeline are done, if it has one, and adds the text of what it hands out.
+// Does what jobs there are until those of a transform's pipeline are done, if it has one, and adds the text of what it
+// hands out.
 fn drain_last_said<R: Wait, G: Gate>(
     rt: &R,
     alloc: Global,

@@ -2,10 +2,10 @@
 
 ghost use Rattle.std.specs.Prelude.{◌≡◌, ◌++◌, [], OnOk, OnErr, MatchResult};
 ghost use Rattle.board.specs.Legal.{LegalBoard};
-ghost use Rattle.dialogues.specs.Piping.{lets_go, let_all_go, drains_at_end, drain_all, end, end_said};
-ghost use Rattle.script_session.specs.Ending.{Moves, MovesAll, StopsMoving, PipelinesMatchState, AreAllDelivered, AllDelivered, AnswersEnd, EndsShut};
-ghost use Rattle.script_session.specs.Performing.{StopsIn};
-ghost use Rattle.script_session.specs.Saying.{SaysTold, Tells};
+ghost use Rattle.dialogues.specs.PipelineCommands.{lets_go, let_all_go, drains_at_end, drain_all, end, end_said};
+ghost use Rattle.script_session.specs.EndOfInput.{Moves, MovesAll, StopsMoving, PipelinesMatchState, AreAllDelivered, AllDelivered, AnswersEnd, EndsShut};
+ghost use Rattle.script_session.specs.PerformedDialogue.{StopsIn};
+ghost use Rattle.script_session.specs.ReplyText.{SaysTold, Tells};
 ghost use Rattle.script_session.specs.States.{HasPipe, ReferencesMatch, PipelinesMatch};
 ghost use Rattle.recorded_calls.specs.Passes.{known, lock_of, CallsBoard};
 
@@ -145,13 +145,13 @@ pub fn drain_last_all<R: Wait, G: Gate>(
 }
 
 impl Session {
-    /// Answers the end of input, as `line` answers a line: held queues are let go, then each live transform is drained, both
-    /// in order of allocation, and then the board is shut. No line comes after it. The session's is the board's first pass,
-    /// with the number 0.
+    /// Answers the end of input, as `line` answers a line: held queues are let go, then each live transform is drained,
+    /// both in order of allocation, and then the board is shut. No line comes after it. The session's is the board's
+    /// first pass, with the number 0.
     ///
-    /// It does what jobs there are while it waits. `Stop` comes for want of memory alone: the calls that were made are then the
-    /// first of the end's dialogue, and the board isn't shut. The reply has the text of what its pipelines handed out up to
-    /// then, and no other callback.
+    /// It does what jobs there are while it waits. `Stop` comes for want of memory alone: the calls that were made are
+    /// then the first of the end's dialogue, and the board isn't shut. The reply has the text of what its pipelines
+    /// handed out up to then, and no other callback.
     pub fn end<R: Wait, G: Gate>(
         &mut self,
         rt: &R,

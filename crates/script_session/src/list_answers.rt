@@ -1,7 +1,7 @@
 //! The answers to `list`.
 
 ghost use Rattle.std.specs.Prelude.{◌≡◌, ◌++◌, ◌∷◌, [], length, map, IfOk, OnOk};
-ghost use Rattle.dialogues.specs.Registering.{row_said};
+ghost use Rattle.dialogues.specs.RegistryCommands.{row_said};
 
 use crate::answers::say;
 use alg_registry::ListRow;

@@ -10,10 +10,11 @@ use crate::transform::Transform;
 use std::alloc::{AllocError, Global};
 use std::collections::BTreeMap;
 
-/// The live transforms. Each has a number, and a later one has a greater number, so `transforms` goes over them in order of
-/// allocation. To find one takes time that grows with the logarithm of how many there are.
+/// The live transforms. Each has a number, and a later one has a greater number, so `transforms` goes over them in
+/// order of allocation. To find one takes time that grows with the logarithm of how many there are.
 ///
-/// RequestLines write through loans of a transform, so it is the session's invariant that the labels lead where they should.
+/// RequestLines write through loans of a transform, so it is the session's invariant that the labels lead where they
+/// should.
 #[derive(Drop)]
 pub struct LiveTransforms {
     /// The number of each label's transform.
@@ -58,7 +59,8 @@ impl LiveTransforms {
         self.transforms.get(&place).unwrap()
     }
 
-    /// Adds a transform behind the others, of a label that none of them has. Where memory is wanting they stay as they were.
+    /// Adds a transform behind the others, of a label that none of them has. Where memory is wanting they stay as they
+    /// were.
     pub fn push(&mut self, alloc: Global, live: Transform) -> Result<(), AllocError>
         requires filed { AreFiled self.old }
         requires free { number_of live.label self.old.transforms.entries ≡ None }

@@ -4,12 +4,12 @@ ghost use Rattle.std.specs.Prelude.{◌≡◌, Some, IsSome, OnOk, MatchResult};
 ghost use Rattle.std.specs.Arc.{arc_value};
 ghost use Rattle.board.specs.Entries.{caller_of};
 ghost use Rattle.board.specs.Legal.{LegalBoard};
-ghost use Rattle.turn_lock.specs.Meeting.{IsOwn};
+ghost use Rattle.turn_lock.specs.PassLaws.{IsOwn};
 ghost use Rattle.turn_lock.specs.Passes.{knows};
 ghost use Rattle.recorded_calls.specs.Passes.{known, lock_of, CallsBoard};
-ghost use Rattle.script_session.specs.Ending.{PipelinesMatchState};
-ghost use Rattle.script_session.specs.Performing.{SeesOn};
-ghost use Rattle.script_session.specs.Lending.{SharesOne, SharesAll};
+ghost use Rattle.script_session.specs.EndOfInput.{PipelinesMatchState};
+ghost use Rattle.script_session.specs.PerformedDialogue.{SeesOn};
+ghost use Rattle.script_session.specs.Loans.{SharesOne, SharesAll};
 ghost use Rattle.script_session.specs.States.{HasPipe, PipelinesMatch};
 
 use crate::scripts::Session;
@@ -87,8 +87,8 @@ fn share_lives<R: Wait>(
 }
 
 impl Session {
-    /// Lets others submit to each pipeline of a script whose lines are done, in order of allocation. Gives its passes, and its
-    /// transforms to be shared. Only want of memory refuses.
+    /// Lets others submit to each pipeline of a script whose lines are done, in order of allocation. Gives its passes,
+    /// and its transforms to be shared. Only want of memory refuses.
     pub fn share<R: Wait>(
         self,
         rt: &R,

@@ -4,7 +4,7 @@ ghost use Rattle.std.specs.Prelude.{◌≡◌, true, IfOk, IfErr, Ok};
 ghost use Rattle.alg_names.specs.Name.{spelling};
 ghost use Rattle.templates.specs.Nesting.{is_nested_well};
 ghost use Rattle.templates.specs.Table.{FaultIs};
-ghost use Rattle.dialogues.specs.Allocating.{is_chained};
+ghost use Rattle.dialogues.specs.AllocAndFree.{is_chained};
 ghost use Rattle.dialogues.specs.Names.{limited_name, name_read, is_queue_length, takes_length, plan_for};
 
 use alg_names::laws::{computed_tree, one_name};

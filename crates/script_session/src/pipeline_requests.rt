@@ -2,23 +2,23 @@
 
 ghost use Rattle.std.specs.Prelude.{◌≡◌, ◌≢◌, ◌↔◌, ◌≤◌, [], Some, MatchResult, IfOk, IfErr, IsTrue, true, false};
 ghost use Rattle.board.specs.declared.board_core.BoardErr.TheVariants as BoardErr;
-ghost use Rattle.script_session.specs.Breaking.{CallsOn};
-ghost use Rattle.script_session.specs.Performing.{SeesOn};
-ghost use Rattle.script_session.specs.Offering.{Offered};
+ghost use Rattle.script_session.specs.BrokenOff.{CallsOn};
+ghost use Rattle.script_session.specs.PerformedDialogue.{SeesOn};
+ghost use Rattle.script_session.specs.Offers.{Offered};
 ghost use Rattle.recorded_calls.specs.Pipelines.{KnowsPipe, Unchanged};
-ghost use Rattle.dialogues.specs.Allocating.{lists_beside, is_chained, queue_shape, shape_for};
+ghost use Rattle.dialogues.specs.AllocAndFree.{lists_beside, is_chained, queue_shape, shape_for};
 ghost use Rattle.dialogues.specs.Names.{is_queue_length};
-ghost use Rattle.script_session.specs.Creating.{Created, unasked};
+ghost use Rattle.script_session.specs.Creation.{Created, unasked};
 ghost use Rattle.board.specs.Legal.{IsNoWorker};
 ghost use Rattle.board.specs.Legal.{LegalBoard};
 ghost use Rattle.std.specs.Arc.{arc_value};
 ghost use Rattle.dialogues.specs.BoardCalls.{asked_by, origin_of};
 ghost use Rattle.board.specs.Allowance.{IsAllowed};
 ghost use Rattle.transforms.specs.AskValue.{ask_size};
-ghost use Rattle.dialogues.specs.Requesting.{requests_in};
+ghost use Rattle.dialogues.specs.RequestCommands.{requests_in};
 ghost use Rattle.recorded_calls.specs.Passes.{known, lock_of, CallsBoard};
 ghost use Rattle.script_session.specs.States.{HasPipe};
-ghost use Rattle.script_session.specs.Changing.{PerformsFor, StopsFor, Released, asks_if, has_undelivered};
+ghost use Rattle.script_session.specs.TransformChanges.{PerformsFor, StopsFor, Released, asks_if, has_undelivered};
 
 use crate::answers::{answer_errno, say, value_answer};
 use crate::name_limits::is_chained_driver;
@@ -33,7 +33,8 @@ use std::alloc::Global;
 use std::sync::Wait;
 use transforms::{Ask, Job};
 
-// Hands a job in to a pipeline that has a worker that may take from it. A pad takes each that the caller's allowance has room for.
+// Hands a job in to a pipeline that has a worker that may take from it. A pad takes each that the caller's allowance
+// has room for.
 fn offer<R: Wait>(
     rt: &R,
     board: &SharedBoard<Job>,
@@ -208,8 +209,8 @@ fn create_queue<R: Wait>(
     Ok(unasked_pipe(alloc, number, Some(max)))
 }
 
-/// Makes the pipeline of a transform, where its driver's outermost template has one: a pad under `pcrypt`, and under `cryptd` a
-/// queue, or a chain over `pcrypt`.
+/// Makes the pipeline of a transform, where its driver's outermost template has one: a pad under `pcrypt`, and under
+/// `cryptd` a queue, or a chain over `pcrypt`.
 pub fn create_pipe<R: Wait>(
     rt: &R,
     alloc: Global,

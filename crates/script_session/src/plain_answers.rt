@@ -3,12 +3,12 @@
 ghost use Rattle.std.specs.Prelude.{◌≡◌, false, OnOk, MatchResult};
 ghost use Rattle.script_text.specs.Sizes.{IsShortLine};
 ghost use Rattle.dialogues.specs.Lines.{line_dialogue};
-ghost use Rattle.dialogues.specs.Piping.{end};
+ghost use Rattle.dialogues.specs.PipelineCommands.{end};
 ghost use Rattle.dialogues.specs.Widths.{width_of};
-ghost use Rattle.script_session.specs.Ending.{EndsWith, EndsShut};
-ghost use Rattle.script_session.specs.Performing.{PerformsBy, StopsIn};
-ghost use Rattle.script_session.specs.Running.{IsReady};
-ghost use Rattle.script_session.specs.Saying.{hands_out};
+ghost use Rattle.script_session.specs.EndOfInput.{EndsWith, EndsShut};
+ghost use Rattle.script_session.specs.PerformedDialogue.{PerformsBy, StopsIn};
+ghost use Rattle.script_session.specs.Replies.{IsReady};
+ghost use Rattle.script_session.specs.ReplyText.{hands_out};
 ghost use Rattle.script_session.specs.States.{ReferencesMatch, PipelinesMatch};
 ghost use Rattle.recorded_calls.specs.Passes.{known, CallsBoard};
 
@@ -27,9 +27,9 @@ use std::thread::Threads;
 use transforms::{Ask, Job};
 
 impl Session {
-    /// Answers a line other than `poll` and `drain` as `line` does, and adds its answers, not their text, to those that are there.
-    /// `Stop` comes for want of memory alone: the calls that were made are then the first of the line's dialogue, what `answers`
-    /// has isn't told, and the session takes no line after it.
+    /// Answers a line other than `poll` and `drain` as `line` does, and adds its answers, not their text, to those that
+    /// are there. `Stop` comes for want of memory alone: the calls that were made are then the first of the line's
+    /// dialogue, what `answers` has isn't told, and the session takes no line after it.
     pub fn answer_line<R: Threads + Wait + Sync>(
         &mut self,
         rt: &R,
@@ -57,9 +57,9 @@ impl Session {
         }
     }
 
-    /// Does what `end` does, and adds its answers, not their text, to those that are there. `Stop` comes for want of memory
-    /// alone: the calls that were made are then the first of the end's dialogue, and the board isn't shut. What `answers` has
-    /// isn't told, and what was handed out may be lost.
+    /// Does what `end` does, and adds its answers, not their text, to those that are there. `Stop` comes for want of
+    /// memory alone: the calls that were made are then the first of the end's dialogue, and the board isn't shut. What
+    /// `answers` has isn't told, and what was handed out may be lost.
     pub fn answer_end<R: Wait, G: Gate>(
         &mut self,
         rt: &R,

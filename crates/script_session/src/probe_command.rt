@@ -3,13 +3,13 @@
 ghost use Rattle.std.specs.Prelude.{◌≡◌, ◌++◌, ◌∷◌, [], List, length, MatchResult, IsFalse, All};
 ghost use Rattle.alg_registry.specs.Legal.{is_worker};
 ghost use Rattle.reply_text.specs.declared.answers.Answer.{Answer as Said};
-ghost use Rattle.dialogues.specs.Probing.{found_said, probe};
-ghost use Rattle.recorded_calls.specs.Looking.{Builds, Goes, found_result};
+ghost use Rattle.dialogues.specs.Probe.{found_said, probe};
+ghost use Rattle.recorded_calls.specs.Looks.{Builds, Goes, found_result};
 ghost use Rattle.recorded_calls.specs.Passes.{CallsRegistry, known};
-ghost use Rattle.script_session.specs.Performing.{PerformsBy, StopsIn};
-ghost use Rattle.script_session.specs.Probing.{Searched, IsRead, entry_of, MaySettle, LooksFirst, LooksSome, IsSaid, SettlesThen};
+ghost use Rattle.script_session.specs.PerformedDialogue.{PerformsBy, StopsIn};
+ghost use Rattle.script_session.specs.Probe.{Searched, IsRead, entry_of, MaySettle, LooksFirst, LooksSome, IsSaid, SettlesThen};
 ghost use Rattle.script_session.specs.States.{ReferencesMatch, PipelinesMatch};
-ghost use Rattle.templates.specs.Looking.{Found};
+ghost use Rattle.templates.specs.LookResults.{Found};
 
 use crate::name_limits::read_name;
 use crate::scripts::Session;
@@ -35,7 +35,7 @@ struct Search {
 }
 
 impl Model for Search {
-    ghost use Rattle.script_session.specs.Probing.{Searched};
+    ghost use Rattle.script_session.specs.Probe.{Searched};
 
     ghost Value = { Searched };
 
@@ -87,8 +87,8 @@ fn look_for_all<R: Wait>(
     Ok(searches)
 }
 
-// Wakes a worker for each search but the first, where something waits to be built: the caller begins with the first itself. No turn is
-// taken.
+// Wakes a worker for each search but the first, where something waits to be built: the caller begins with the first
+// itself. No turn is taken.
 fn call_workers(board: &SharedBoard<Job>, registry: &SharedRegistry, searches: usize) {
     for _ in 1..searches {
         if registry.may_build() {

@@ -1,10 +1,10 @@
 //! The lines that change the registry or show what it has.
 
 ghost use Rattle.std.specs.Prelude.{MatchResult};
-ghost use Rattle.dialogues.specs.Registering.{register, unregister, refs, listed};
+ghost use Rattle.dialogues.specs.RegistryCommands.{register, unregister, refs, listed};
 ghost use Rattle.recorded_calls.specs.Passes.{CallsRegistry, known};
 ghost use Rattle.script_session.specs.States.{ReferencesMatch, PipelinesMatch};
-ghost use Rattle.script_session.specs.Performing.{Performs, Stops, StopsIn};
+ghost use Rattle.script_session.specs.PerformedDialogue.{Performs, Stops, StopsIn};
 
 use crate::answers::{answer_errno, enlisted_answer, refs_answer, say, unlisted_answer};
 use crate::drivers::driver_of;

@@ -2,10 +2,10 @@
 
 ghost use Rattle.std.specs.Prelude.{◌≡◌, ◌+◌, ◌<◌, ◌≤◌, ◌^◌, [], length, IfOk, MatchResult, IsTrue};
 ghost use Rattle.std_defs.specs.Aes.{IsKeyLength, seal};
-ghost use Rattle.dialogues.specs.Requesting.{aes_said, request_of, aes, request};
+ghost use Rattle.dialogues.specs.RequestCommands.{aes_said, request_of, aes, request};
 ghost use Rattle.recorded_calls.specs.Passes.{known, CallsBoard};
 ghost use Rattle.script_session.specs.States.{ReferencesMatch, PipelinesMatch, AreShared, counted};
-ghost use Rattle.script_session.specs.Performing.{Performs, StopsIn};
+ghost use Rattle.script_session.specs.PerformedDialogue.{Performs, StopsIn};
 
 use crate::answers::{answer_errno, say};
 use crate::pipeline_requests::take_job;

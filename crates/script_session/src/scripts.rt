@@ -6,11 +6,11 @@ ghost use Rattle.script_text.specs.declared.commands.Line.TheVariants.{Cmd};
 ghost use Rattle.dialogues.specs.ScriptState.{start};
 ghost use Rattle.dialogues.specs.Lines.{command_dialogue, line_dialogue};
 ghost use Rattle.dialogues.specs.Widths.{command_width, width_of};
-ghost use Rattle.script_session.specs.Running.{IsReady, Replies};
+ghost use Rattle.script_session.specs.Replies.{IsReady, Replies};
 ghost use Rattle.recorded_calls.specs.Passes.{CallsRegistry, known, CallsBoard};
 ghost use Rattle.script_session.specs.States.{ReferencesMatch, PipelinesMatch, PadsHaveAListPerWorker, AreShared};
-ghost use Rattle.script_session.specs.Performing.{PerformsBy, StopsIn};
-ghost use Rattle.script_session.specs.Saying.{SaysBy, hands_out};
+ghost use Rattle.script_session.specs.PerformedDialogue.{PerformsBy, StopsIn};
+ghost use Rattle.script_session.specs.ReplyText.{SaysBy, hands_out};
 ghost use Rattle.recorded_calls.specs.Pipelines.{Called};
 
 use crate::alloc_and_free::Wanted;
@@ -49,7 +49,7 @@ pub struct Session {
 
 impl Model for Session {
     ghost use Rattle.script_session.specs.Filed.{AreFiled, lives_of};
-    ghost use Rattle.script_session.specs.Sharing.{shared_in};
+    ghost use Rattle.script_session.specs.SharedTransforms.{shared_in};
     ghost use Rattle.script_session.specs.States.{State};
 
     ghost Value = { State };
@@ -71,7 +71,8 @@ impl Model for Session {
 }
 
 impl Session {
-    /// A script that has made nothing, as this client, with so many workers beside it and these passes. No memory is taken.
+    /// A script that has made nothing, as this client, with so many workers beside it and these passes. No memory is
+    /// taken.
     pub fn new(
         alloc: Global,
         workers: u32,
@@ -228,14 +229,15 @@ impl Session {
         Ok(())
     }
 
-    /// Answers a line: it holds the line's dialogue with the registry and the board, and adds the text of what was answered to
-    /// `reply`. Entries of others may lie between its calls.
+    /// Answers a line: it holds the line's dialogue with the registry and the board, and adds the text of what was
+    /// answered to `reply`. Entries of others may lie between its calls.
     ///
     /// `number` is the line's place in the script, counted from 1. Its answers bear it, and completions of its request.
-    /// Each list of bytes in the line is shorter than 2^32. `drain` does what jobs there are while it waits, `probe` builds, and `bulk`
-    /// starts threads, which end in this call. A request keeps the line's bytes. `Stop` comes for want of memory alone, with the
-    /// reply as it was. The calls that were made are then the first of the line's dialogue. `poll` and `drain` have made none
-    /// on the board, but jobs may have been done. The session takes no line after it.
+    /// Each list of bytes in the line is shorter than 2^32. `drain` does what jobs there are while it waits, `probe`
+    /// builds, and `bulk` starts threads, which end in this call. A request keeps the line's bytes. `Stop` comes for
+    /// want of memory alone, with the reply as it was. The calls that were made are then the first of the line's
+    /// dialogue. `poll` and `drain` have made none on the board, but jobs may have been done. The session takes no line
+    /// after it.
     pub fn line<R: Threads + Wait + Sync, G: Gate>(
         &mut self,
         rt: &R,

@@ -5,13 +5,13 @@ ghost use Rattle.board.specs.declared.entry.BoardEntry.{BoardEntry};
 ghost use Rattle.board.specs.Legal.{LegalBoard};
 ghost use Rattle.transforms.specs.declared.ask.Ask.{Ask};
 ghost use Rattle.turn_lock.specs.Turns.{Known};
-ghost use Rattle.dialogues.specs.Allocating.{lists_beside};
-ghost use Rattle.dialogues.specs.Piping.{kept_bits, mask};
-ghost use Rattle.dialogues.specs.Requesting.{set_key, set_tag_size};
+ghost use Rattle.dialogues.specs.AllocAndFree.{lists_beside};
+ghost use Rattle.dialogues.specs.PipelineCommands.{kept_bits, mask};
+ghost use Rattle.dialogues.specs.RequestCommands.{set_key, set_tag_size};
 ghost use Rattle.recorded_calls.specs.Passes.{known, lock_of, CallsBoard};
 ghost use Rattle.recorded_calls.specs.Pipelines.{KnowsPipe, Unchanged, IsQueue, Changed};
-ghost use Rattle.script_session.specs.Changing.{PerformsFor, StopsFor};
-ghost use Rattle.script_session.specs.Performing.{Performs, StopsIn};
+ghost use Rattle.script_session.specs.TransformChanges.{PerformsFor, StopsFor};
+ghost use Rattle.script_session.specs.PerformedDialogue.{Performs, StopsIn};
 ghost use Rattle.script_session.specs.Settings.{sets, holds_or_goes, hold_call};
 ghost use Rattle.script_session.specs.States.{HasPipe, MadeWide, PadsHaveAListPerWorker, ReferencesMatch, PipelinesMatch};
 

@@ -4,15 +4,15 @@ ghost use Rattle.std.specs.Prelude.{◌≡◌, [], false, MatchResult};
 ghost use Rattle.board.specs.Alone.{PeersGone};
 ghost use Rattle.board.specs.Legal.{LegalBoard, is_shut};
 ghost use Rattle.turn_lock.specs.Passes.{knows};
-ghost use Rattle.dialogues.specs.Piping.{lets_go, let_all_go, drains_at_end, drain_all};
+ghost use Rattle.dialogues.specs.PipelineCommands.{lets_go, let_all_go, drains_at_end, drain_all};
 ghost use Rattle.dialogues.specs.ScriptState.{PipelineState as KnownPipe};
 ghost use Rattle.shared_board.specs.Passes.{IsPassOn};
 ghost use Rattle.recorded_calls.specs.Passes.{known, lock_of, CallsBoard};
 ghost use Rattle.recorded_calls.specs.Pipelines.{IsShut};
-ghost use Rattle.recorded_calls.specs.Sharing.{KnowsGathered};
-ghost use Rattle.script_session.specs.Gathering.{IsJoined, EndsFirst, StopsFirst, SeesBeside, HasFreed, HasDelivered, MovesLent, MovesAllLent, EndsLent, AreToMove};
-ghost use Rattle.script_session.specs.Performing.{HasSeenMore};
-ghost use Rattle.script_session.specs.Lending.{HasLent};
+ghost use Rattle.recorded_calls.specs.SharedCalls.{KnowsGathered};
+ghost use Rattle.script_session.specs.SharedEnd.{IsJoined, EndsFirst, StopsFirst, SeesBeside, HasFreed, HasDelivered, MovesLent, MovesAllLent, EndsLent, AreToMove};
+ghost use Rattle.script_session.specs.PerformedDialogue.{HasSeenMore};
+ghost use Rattle.script_session.specs.Loans.{HasLent};
 
 use crate::answers::put_all;
 use crate::callbacks::{count_completions, tell};
@@ -91,7 +91,8 @@ fn freed(alloc: Global, pipe: &PipelineView) -> PipelineView
     }
 }
 
-// Does what jobs there are until those of a shared transform's pipeline are done, if it has one, and adds what it hands out.
+// Does what jobs there are until those of a shared transform's pipeline are done, if it has one, and adds what it hands
+// out.
 fn drain_shared<R: Wait, G: Gate>(
     rt: &R,
     alloc: Global,
@@ -187,8 +188,9 @@ fn shut_beside<R: Wait>(rt: &R, board: &SharedBoard<Job>, pass: BoardPass<Job>) 
     board.shut(rt, pass)
 }
 
-/// Answers the end of input of the first script, when all have ended that were split off its pass and share its transforms: held
-/// queues are let go, each pipeline is drained of what all submitted, both in order of allocation, and then the board is shut.
+/// Answers the end of input of the first script, when all have ended that were split off its pass and share its
+/// transforms: held queues are let go, each pipeline is drained of what all submitted, both in order of allocation, and
+/// then the board is shut.
 ///
 /// It does what jobs there are while it waits. `Stop` comes for want of memory alone; then the board isn't shut.
 pub fn end_first<R: Wait, G: Gate>(

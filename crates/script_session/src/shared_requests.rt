@@ -7,14 +7,14 @@ ghost use Rattle.board.specs.Allowance.{IsAllowed};
 ghost use Rattle.board.specs.Legal.{LegalBoard};
 ghost use Rattle.transforms.specs.AskValue.{ask_size};
 ghost use Rattle.dialogues.specs.BoardCalls.{asked_by};
-ghost use Rattle.dialogues.specs.Requesting.{request, requests_in};
+ghost use Rattle.dialogues.specs.RequestCommands.{request, requests_in};
 ghost use Rattle.dialogues.specs.ScriptState.{live_of};
 ghost use Rattle.recorded_calls.specs.Passes.{known, lock_of, CallsBoard};
 ghost use Rattle.recorded_calls.specs.Pipelines.{Unchanged};
-ghost use Rattle.recorded_calls.specs.Sharing.{KnowsShared};
-ghost use Rattle.script_session.specs.Changing.{asks_if};
-ghost use Rattle.script_session.specs.Performing.{Performs, StopsIn};
-ghost use Rattle.script_session.specs.Sharing.{GivesFor, StopsGiving, OffersShared};
+ghost use Rattle.recorded_calls.specs.SharedCalls.{KnowsShared};
+ghost use Rattle.script_session.specs.TransformChanges.{asks_if};
+ghost use Rattle.script_session.specs.PerformedDialogue.{Performs, StopsIn};
+ghost use Rattle.script_session.specs.SharedTransforms.{GivesFor, StopsGiving, OffersShared};
 ghost use Rattle.script_session.specs.States.{ReferencesMatch, PipelinesMatch, HasShared, AreShared};
 
 use crate::answers::{answer_errno, say, value_answer};
@@ -29,7 +29,8 @@ use shared_board::SharedBoard;
 use std::sync::Wait;
 use transforms::{Job, Request, TfmErr};
 
-// Hands a job in to a shared pipeline that has a worker that may take from it. A pad takes each that the caller's allowance has room for.
+// Hands a job in to a shared pipeline that has a worker that may take from it. A pad takes each that the caller's
+// allowance has room for.
 fn offer_shared<R: Wait>(
     rt: &R,
     board: &SharedBoard<Job>,
@@ -59,7 +60,8 @@ fn offer_shared<R: Wait>(
     }
 }
 
-// Does a job of a line of the script: at once, or in the pipeline of a transform that is shared. It says whether that accepted it.
+// Does a job of a line of the script: at once, or in the pipeline of a transform that is shared. It says whether that
+// accepted it.
 fn give_job<R: Wait>(
     rt: &R,
     board: &SharedBoard<Job>,

@@ -4,7 +4,7 @@ ghost use Rattle.std.specs.Prelude.{◌≡◌, find, is_some};
 ghost use Rattle.std.specs.Option.{option_copied};
 ghost use Rattle.dialogues.specs.Dialogues.{missing};
 ghost use Rattle.dialogues.specs.ScriptState.{is_of, shared_of, either_of};
-ghost use Rattle.script_session.specs.Sharing.{shared_in};
+ghost use Rattle.script_session.specs.SharedTransforms.{shared_in};
 
 use crate::scripts::Session;
 use crate::transform::Transform;

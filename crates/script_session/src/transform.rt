@@ -4,7 +4,7 @@ ghost use Rattle.std.specs.Prelude.{◌≡◌, ◌⊎◌, true, false, ◌<◌, 
 ghost use Rattle.std.specs.Arc.{arc_value};
 ghost use Rattle.std.specs.Option.{option_copied};
 ghost use Rattle.transforms.specs.Plans.{takes_key, takes_tag};
-ghost use Rattle.dialogues.specs.Allocating.{new_live};
+ghost use Rattle.dialogues.specs.AllocAndFree.{new_live};
 ghost use Rattle.dialogues.specs.BoardCalls.{asked_by};
 ghost use Rattle.script_session.specs.Keyed.{with_line, held_as, manned_as, delivering, MayDeliver, IsJob, IsNoJob};
 
@@ -169,8 +169,8 @@ impl Transform {
         }
     }
 
-    /// The job of a request of a line, under the key that was set last, with all the memory that it needs, or none where no key was
-    /// set. `Inval` exactly where the mode doesn't take the request.
+    /// The job of a request of a line, under the key that was set last, with all the memory that it needs, or none
+    /// where no key was set. `Inval` exactly where the mode doesn't take the request.
     pub fn job(
         &self,
         alloc: Global,

@@ -6,7 +6,7 @@ use Rattle.std.proofs.lemmas.List.{take_at, length-take-le, length-drop, drop-dr
 use Rattle.std.proofs.Math.Seq.{take-length, drop-length, take-add}
 use Rattle.script_text.specs.Lines.{is_feed, lines_of}
 use Rattle.script_text.specs.Parts.{is_mark, before_mark, behind_mark, all_bytes, cut_lines}
-use Rattle.script_text.specs.Pending.{IsFirstFeed}
+use Rattle.script_text.specs.LineCutter.{IsFirstFeed}
 use Rattle.script_text.proofs.PendingLemmas.{lines_cut}
 use Rattle.script_text.proofs.LineLemmas.{line_without_feed}
 

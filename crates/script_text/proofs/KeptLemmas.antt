@@ -4,7 +4,7 @@ use Rattle.std.specs.Prelude.{nat_lt, ◌==◌}
 use Rattle.std.proofs.lemmas.Bool.Decides.{nat_tests}
 use Rattle.std.proofs.lemmas.List.{drop-drop, take_more, take-append-drop, take_all, drop_all, length-take-le}
 use Rattle.std.proofs.Math.Seq.{get_or-append_seam, take-append-add}
-use Rattle.script_text.specs.Pending.{IsFirstFeed, kept_in, kept_of, all_seen}
+use Rattle.script_text.specs.LineCutter.{IsFirstFeed, kept_in, kept_of, all_seen}
 use Rattle.script_text.specs.Script.{line_of}
 use Rattle.script_text.specs.declared.commands.Line.{Line}
 use Rattle.script_text.specs.declared.commands.Line.TheVariants.{Malformed}

@@ -10,7 +10,7 @@ use Rattle.std.proofs.lemmas.List.Sums.{prefix_len_passes, prefix_len_stops}
 use Rattle.std.proofs.lemmas.List.Elements.{All-from_get_or, All-contains, Contains-append_right, Contains-append_cases, Contains-get_or, All-cons, All-nil}
 use Rattle.std.specs.List.{onto_first, position_or_len, All, Contains}
 use Rattle.script_text.specs.Lines.{is_feed, lines_of, ends_with, without_return, without_last}
-use Rattle.script_text.specs.Pending.{CutterState, IsPending, IsFirstFeed, CutsNext, CutsLast, kept_of, all_seen, all_begun}
+use Rattle.script_text.specs.LineCutter.{CutterState, IsPending, IsFirstFeed, CutsNext, CutsLast, kept_of, all_seen, all_begun}
 use Rattle.script_text.specs.Script.{line_of, line_of_text, line_of_tokens, script_of}
 use Rattle.script_text.specs.Tokens.{tokens_of}
 use Rattle.script_text.specs.Whole.{whole_script, AreFirst, WholeLinesStay, NoWholeLine}

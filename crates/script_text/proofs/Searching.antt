@@ -7,7 +7,7 @@ use Rattle.std.proofs.KnownBytes.{Consumes-nil, Consumes-trans}
 use Rattle.kc_base.specs.declared.transfer.InputError.{InputError}
 use Rattle.kc_base.specs.declared.transfer.InputError.TheVariants.{Failed, TooLong, NoMemory}
 use Rattle.script_text.specs.NextLine.{Place, StandsAt, ReadsOn, ReadsPiece, IsNext, FindsNext}
-use Rattle.script_text.specs.Pending.{CutterState, IsPending, EndsLine, CutsNext, CutsLast}
+use Rattle.script_text.specs.LineCutter.{CutterState, IsPending, EndsLine, CutsNext, CutsLast}
 use Rattle.script_text.specs.Script.{line_of, script_of}
 use Rattle.script_text.specs.Whole.{whole_script}
 use Rattle.script_text.specs.declared.commands.Line.{Line}

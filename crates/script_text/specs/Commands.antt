@@ -57,7 +57,7 @@ authsize_row (label ∷ size ∷ []) = do
 authsize_row other = None
 
 -- `enc T IV AAD TEXT [backlog]` and `dec T IV AAD TEXT [backlog]`
-abbrev pub aead_row : (List ℕ → List ℕ → List ℕ → Segmented → Bool → Command) → List (List ℕ) → Option Command
+abbrev pub aead_row : {A : Type 0} → (List ℕ → List ℕ → List ℕ → Segmented → Bool → A) → List (List ℕ) → Option A
 aead_row command (label ∷ iv ∷ aad ∷ text ∷ more) = do
   label ← label_of label
   iv ← hex_of iv

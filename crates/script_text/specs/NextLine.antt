@@ -3,12 +3,13 @@ use Rattle.std.specs.Prelude.{◌≡◌, ◌++◌, ℕ, ◌+◌, ◌<◌, ◌≤
 use Rattle.std.specs.Io.KnownBytes.{Consumes, IsAtEnd}
 use Rattle.kc_base.specs.declared.transfer.InputError.{InputError}
 use Rattle.kc_base.specs.declared.transfer.InputError.TheVariants.{Failed, TooLong}
-use Rattle.script_text.specs.Pending.{CutterState, IsPending}
+use Rattle.script_text.specs.LineCutter.{CutterState, IsPending}
 use Rattle.script_text.specs.Script.{script_of}
 use Rattle.script_text.specs.Whole.{whole_script}
 use Rattle.script_text.specs.declared.commands.Line.{Line}
 
--- What a reader of lines is seen as: what its cutter keeps, how many bytes may still come, and whether the source has ended.
+-- What a reader of lines is seen as: what its cutter keeps, how many bytes may still come, and whether the source has
+-- ended.
 pub record Place : Type 0 where
   pub kept : CutterState
   pub room : ℕ
@@ -28,8 +29,8 @@ pub record ReadsOn (pending : List ℕ) (left left' : Option (List ℕ)) : Type 
   pub one_piece : length piece ≤ 65536
   pub needed : (before ++ piece ≡ []) ⊎ (Contains (pending ++ before) 10 → ⊥)
 
--- Whatever comes after these bytes, their first line says this, and the rest follows it; at the end nothing comes. The line is
--- whole where it isn't the end.
+-- Whatever comes after these bytes, their first line says this, and the rest follows it; at the end nothing comes. The
+-- line is whole where it isn't the end.
 pub record IsNext (bytes : List ℕ) (ended : Bool) (said : Line) (rest : List ℕ) : Type 0 where
   pub script : (more : List ℕ) → (ended ≡ true → more ≡ []) → script_of (bytes ++ more) ≡ said ∷ script_of (rest ++ more)
   pub whole : ended ≡ false → (more : List ℕ) → whole_script (bytes ++ more) ≡ said ∷ whole_script (rest ++ more)

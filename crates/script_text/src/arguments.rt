@@ -136,7 +136,8 @@ fn one_segment(alloc: Global, token: &[u8]) -> Result<Segs, ReadError>
     Ok(Segs::from_parts(parts))
 }
 
-/// The text that a token spells in one part or several, each of which is a segment. Several are read into one piece of memory.
+/// The text that a token spells in one part or several, each of which is a segment. Several are read into one piece of
+/// memory.
 pub fn segments(alloc: Global, token: &[u8]) -> Result<Segs, ReadError>
     ensures { Reads result (text_of token.now) }
 {

@@ -4,9 +4,9 @@ use crate::texts::Texts;
 use kc_base::Bytes;
 use sg_walk::Segs;
 
-/// A command, with its arguments. Hexadecimal digits are decoded, each part of a text into a segment of its own: one part,
-/// or 2 to 16 of at least one byte each. A label has 1 to 32 letters, digits, `-` or `_`; a name and a driver are any token; a
-/// number has 1 to 9 decimal digits, a mask four hexadecimal ones.
+/// A command, with its arguments. Hexadecimal digits are decoded, each part of a text into a segment of its own: one
+/// part, or 2 to 16 of at least one byte each. A label has 1 to 32 letters, digits, `-` or `_`; a name and a driver are
+/// any token; a number has 1 to 9 decimal digits, a mask four hexadecimal ones.
 #[derive(Debug, Drop)]
 pub enum Command {
     /// `aes KEY BLOCK`: the block sealed by AES under the key.
@@ -71,7 +71,8 @@ pub enum Command {
         size: u32,
         seed: u32,
     },
-    /// `mask T MASK`: from now on the workers whose bits are set may take from the transform's pad, bit i for worker i + 1.
+    /// `mask T MASK`: from now on the workers whose bits are set may take from the transform's pad, bit i for worker i
+    /// + 1.
     Mask {
         label: Bytes,
         mask: u16,
@@ -109,7 +110,8 @@ pub enum Command {
 pub enum Line {
     /// A comment, or no token at all. It has no answer.
     Nothing,
-    /// No command: a wrong word or argument, a byte that isn't printed ASCII, or more than 65,536 bytes before the line feed.
+    /// No command: a wrong word or argument, a byte that isn't printed ASCII, or more than 65,536 bytes before the line
+    /// feed.
     Malformed,
     /// A command.
     Cmd(Command),

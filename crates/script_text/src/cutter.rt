@@ -1,7 +1,7 @@
 //! Lines out of pieces that come one after another.
 
 ghost use Rattle.std.specs.Prelude.{◌≡◌, ◌||◌, ◌&&◌, not, length, nat_eq, nat_lt, ◌≤◌, ◌++◌, List, ℕ, [], ◌∷◌, Some, drop, true, false, vec_len, Contains, MatchBool, IfSome, IfOk, OnOk, OnErr};
-ghost use Rattle.script_text.specs.Pending.{all_seen, IsPending, CutsNext, CutsLast};
+ghost use Rattle.script_text.specs.LineCutter.{all_seen, IsPending, CutsNext, CutsLast};
 ghost use Rattle.script_text.specs.Script.{line_of};
 ghost use Rattle.script_text.specs.Sizes.{IsShortLine};
 
@@ -11,8 +11,8 @@ use crate::split::feed_place;
 use std::alloc::{AllocError, Global};
 use std::marker::Model;
 
-/// Cuts a script into its lines as it comes, piece by piece. Of a line that has more than 65,536 bytes before its line feed it
-/// keeps none.
+/// Cuts a script into its lines as it comes, piece by piece. Of a line that has more than 65,536 bytes before its line
+/// feed it keeps none.
 #[derive(Drop)]
 pub struct LineCutter {
     alloc: Global,
@@ -27,7 +27,7 @@ pub struct LineCutter {
 
 impl Model for LineCutter {
     ghost use Rattle.std.specs.Prelude.{◌≤◌, vec_len};
-    ghost use Rattle.script_text.specs.Pending.{CutterState, kept_in};
+    ghost use Rattle.script_text.specs.LineCutter.{CutterState, kept_in};
 
     ghost Value = { CutterState };
 
@@ -36,7 +36,8 @@ impl Model for LineCutter {
     ghost invariant = { λ c. (c.at ≤ c.seen) × (c.seen ≤ vec_len c.bytes) };
 }
 
-// Takes so many bytes off the front. Where there are none, nothing is moved, since a line may come in many short pieces.
+// Takes so many bytes off the front. Where there are none, nothing is moved, since a line may come in many short
+// pieces.
 fn drop_front(bytes: &mut Vec<u8>, count: usize)
     requires { count ≤ vec_len bytes.old }
     ensures { bytes.new.items ≡ drop count bytes.old.items }
@@ -121,8 +122,8 @@ impl LineCutter {
         self.seen = length;
     }
 
-    /// The next line that a line feed ends, or `None` exactly where none is left. It looks for a line feed in no byte twice. Want
-    /// of memory changes nothing.
+    /// The next line that a line feed ends, or `None` exactly where none is left. It looks for a line feed in no byte
+    /// twice. Want of memory changes nothing.
     pub fn next(&mut self) -> Result<Option<Line>, AllocError>
         ensures line { IfOk result (CutsNext self.old self.new) }
         ensures short { IfOk result (λ answer. IfSome answer IsShortLine) }
@@ -140,7 +141,8 @@ impl LineCutter {
         Ok(Some(said))
     }
 
-    /// What is left where the input ends, as a line, or `None` exactly where no byte is left. Want of memory changes nothing.
+    /// What is left where the input ends, as a line, or `None` exactly where no byte is left. Want of memory changes
+    /// nothing.
     pub fn last(&mut self) -> Result<Option<Line>, AllocError>
         ensures line { IfOk result (CutsLast self.old self.new) }
         ensures short { IfOk result (λ answer. IfSome answer IsShortLine) }

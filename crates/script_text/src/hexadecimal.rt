@@ -1,4 +1,5 @@
-//! Bytes out of hexadecimal digits. Neither loop stops before its end or branches, so that many digits are looked at at once.
+//! Bytes out of hexadecimal digits. Neither loop stops before its end or branches, so that many digits are looked at at
+//! once.
 
 ghost use Rattle.std.specs.Prelude.{◌≡◌, ◌/◌, ◌%◌, ◌==◌, ◌&&◌, ℕ, IsTrue, length, Ok, Some};
 ghost use Rattle.std.specs.List.{list_all};

@@ -63,9 +63,9 @@ fn read_text(alloc: Global, length: usize, text: &[u8]) -> Result<Line, AllocErr
     read_parts(alloc, &tokens)
 }
 
-/// What a line says. The line is given with the line feed that ends it, where one does; a carriage return before that line feed
-/// isn't part of the text. A line with more than 65,536 bytes before its line feed is `Malformed`. Want of memory is the only
-/// error.
+/// What a line says. The line is given with the line feed that ends it, where one does; a carriage return before that
+/// line feed isn't part of the text. A line with more than 65,536 bytes before its line feed is `Malformed`. Want of
+/// memory is the only error.
 pub fn read_line(alloc: Global, line: &[u8]) -> Result<Line, AllocError>
     ensures line { IfOk result (λ said. said ≡ line_of line.now) }
     ensures short { IfOk result IsShortLine }

@@ -3,7 +3,7 @@
 ghost use Rattle.std.specs.Prelude.{◌≡◌, ◌<◌, ◌≤◌, ◌⊎◌, List, ℕ, [], Some, true, false, length, vec_len, Contains, MatchBool, IfSome, IfOk, OnOk, IfErr, IsErrOf};
 ghost use Rattle.kc_base.specs.Streams.{Rose};
 ghost use Rattle.script_text.specs.NextLine.{StandsAt, ReadsPiece, FindsNext};
-ghost use Rattle.script_text.specs.Pending.{IsPending, CutsNext, CutsLast};
+ghost use Rattle.script_text.specs.LineCutter.{IsPending, CutsNext, CutsLast};
 ghost use Rattle.script_text.specs.Sizes.{IsShortLine};
 
 use crate::commands::Line;
@@ -44,8 +44,8 @@ fn zeros(alloc: Global, count: usize) -> Result<Vec<u8>, AllocError>
 }
 
 impl LineReader {
-    /// Nothing was read yet, and at most `limit` bytes may come. It takes memory for one read of 65,536 bytes, and fails where
-    /// there is none.
+    /// Nothing was read yet, and at most `limit` bytes may come. It takes memory for one read of 65,536 bytes, and
+    /// fails where there is none.
     pub fn new(alloc: Global, limit: usize) -> Result<LineReader, AllocError>
         ensures { IfOk result (λ reader. reader ≡ record { kept = record { begun = Some []; unseen = [] }; room = limit; ended = false }) }
     {
@@ -125,10 +125,10 @@ impl LineReader {
         }
     }
 
-    /// The next line, or `None` at the end of the script. It reads only where no whole line is left, and hands out the rest
-    /// without a line feed where the source has ended. `Failed` comes where the source failed, and each whole line was handed
-    /// out before; `TooLong` exactly where it gave more bytes than may come; `NoMemory` where memory is wanting. After an error
-    /// what is left isn't told.
+    /// The next line, or `None` at the end of the script. It reads only where no whole line is left, and hands out the
+    /// rest without a line feed where the source has ended. `Failed` comes where the source failed, and each whole line
+    /// was handed out before; `TooLong` exactly where it gave more bytes than may come; `NoMemory` where memory is
+    /// wanting. After an error what is left isn't told.
     pub fn next<S: Source>(&mut self, src: &mut S) -> Result<Option<Line>, InputError>
         ensures line { (pending : List ℕ) → StandsAt pending self.old (S.left src.old)
             → FindsNext pending self.old self.new (S.left src.old) (S.left src.new) result }

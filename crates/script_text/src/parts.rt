@@ -107,8 +107,8 @@ fn cut_at_mark(alloc: Global, bytes: &[u8]) -> Result<(&[u8], &[u8]), AllocError
 }
 
 /// The parts of an input for so many clients, where they stand in it: it is cut at the first lines whose only token is
-/// `%%`, as many as there are clients, and a part that isn't there is empty. The first part stands before the first such
-/// line.
+/// `%%`, as many as there are clients, and a part that isn't there is empty. The first part stands before the first
+/// such line.
 pub fn cut_parts(alloc: Global, input: &[u8], clients: u32) -> Result<Vec<Part<'_>>, AllocError>
     ensures { IfOk result (λ parts. parts.items ≡ parts_of clients input.now) }
 {

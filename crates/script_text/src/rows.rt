@@ -3,6 +3,7 @@
 ghost use Rattle.std.specs.Prelude.{map};
 ghost use Rattle.script_text.specs.Arguments.{Reads};
 ghost use Rattle.script_text.specs.Commands.{aes_row, register_row, unregister_row, probe_row, alloc_row, key_row, authsize_row, aead_row, mac_row, bulk_row, mask_row, label_row, refs_row, list_row, listing_command_of, pipeline_command_of, request_command_of, transform_command_of, command_of};
+ghost use Rattle.script_text.specs.AeadRequests.{request_of};
 ghost use Rattle.script_text.specs.declared.commands.Command.TheVariants as says;
 
 use crate::arguments::{
@@ -11,6 +12,7 @@ use crate::arguments::{
 };
 use crate::commands::Command;
 use kc_base::Bytes;
+use sg_walk::Segs;
 use std::alloc::Global;
 
 fn aes_command(alloc: Global, args: &[&[u8]]) -> Result<Command, ReadError>
@@ -93,13 +95,23 @@ fn authsize_command(alloc: Global, args: &[&[u8]]) -> Result<Command, ReadError>
     })
 }
 
-fn enc_command(alloc: Global, args: &[&[u8]]) -> Result<Command, ReadError>
-    ensures { Reads result (aead_row says.Enc (map (λ token. token.now) args.now)) }
+/// What the arguments of `enc` and `dec` ask for.
+#[derive(Drop)]
+struct AeadRequest {
+    label: Bytes,
+    iv: Bytes,
+    aad: Bytes,
+    text: Segs,
+    backlog: bool,
+}
+
+fn aead_request(alloc: Global, args: &[&[u8]]) -> Result<AeadRequest, ReadError>
+    ensures { Reads result (aead_row request_of (map (λ token. token.now) args.now)) }
 {
     let [transform, iv, aad, text, more @ ..] = args else {
         return Err(ReadError::Malformed);
     };
-    Ok(Command::Enc {
+    Ok(AeadRequest {
         label: label(alloc, transform)?,
         iv: hex_bytes(alloc, iv)?,
         aad: hex_bytes(alloc, aad)?,
@@ -108,18 +120,29 @@ fn enc_command(alloc: Global, args: &[&[u8]]) -> Result<Command, ReadError>
     })
 }
 
+fn enc_command(alloc: Global, args: &[&[u8]]) -> Result<Command, ReadError>
+    ensures { Reads result (aead_row says.Enc (map (λ token. token.now) args.now)) }
+{
+    let asked = aead_request(alloc, args)?;
+    Ok(Command::Enc {
+        label: asked.label,
+        iv: asked.iv,
+        aad: asked.aad,
+        text: asked.text,
+        backlog: asked.backlog,
+    })
+}
+
 fn dec_command(alloc: Global, args: &[&[u8]]) -> Result<Command, ReadError>
     ensures { Reads result (aead_row says.Dec (map (λ token. token.now) args.now)) }
 {
-    let [transform, iv, aad, text, more @ ..] = args else {
-        return Err(ReadError::Malformed);
-    };
+    let asked = aead_request(alloc, args)?;
     Ok(Command::Dec {
-        label: label(alloc, transform)?,
-        iv: hex_bytes(alloc, iv)?,
-        aad: hex_bytes(alloc, aad)?,
-        text: segments(alloc, text)?,
-        backlog: backlog(more)?,
+        label: asked.label,
+        iv: asked.iv,
+        aad: asked.aad,
+        text: asked.text,
+        backlog: asked.backlog,
     })
 }
 

@@ -2,7 +2,7 @@
 
 ghost use Rattle.std.specs.Prelude.{◌≡◌, ◌∷◌, [], ◌++◌, ◌<◌, ◌≤◌, length, take, drop, Contains, IfSome, MatchOption};
 ghost use Rattle.script_text.specs.Lines.{lines_of};
-ghost use Rattle.script_text.specs.Pending.{IsFirstFeed};
+ghost use Rattle.script_text.specs.LineCutter.{IsFirstFeed};
 ghost use Rattle.script_text.specs.Whole.{WholeLinesStay, NoWholeLine};
 
 use memchr::memchr;

@@ -22,9 +22,9 @@ use Rattle.alg_registry.proofs.Fresh.{is_listed-within}
 use Rattle.alg_registry.proofs.Keeping.{driver-within, kept-unlist, kept-get, kept-put, put-within}
 use Rattle.alg_registry.proofs.Registering.{rows_of-registered}
 use Rattle.alg_registry.proofs.Steps.{IsQuiet, LegalReg-push}
-use Rattle.templates.specs.Looking.{Found, NonePending, found_in}
+use Rattle.templates.specs.LookResults.{Found, NonePending, found_in}
 use Rattle.templates.specs.Table.{table}
-use Rattle.templates.specs.Resolving.{weight_of}
+use Rattle.templates.specs.Resolution.{weight_of}
 use Rattle.dialogues.specs.RegistryCalls.{RegCall, Enlists, Looks, Unlists, Gets, Puts, Counts, Lists, reg_call_of, is_settled}
 use Rattle.sequential_model.specs.Registry.{PlainRegistry, first_registry, registry_after, with_rows, changed, changed_by}
 use Rattle.sequential_model.proofs.Agreeing.{IsRegistryOf, is_building}

@@ -4,7 +4,7 @@ use Rattle.std.specs.List.{list_all, fold}
 use Rattle.alg_registry.specs.declared.entry.RegEntry.{RegEntry}
 use Rattle.alg_registry.specs.Legal.{LegalReg}
 use Rattle.alg_registry.specs.Made.{Made}
-use Rattle.templates.specs.Looking.{NonePending}
+use Rattle.templates.specs.LookResults.{NonePending}
 use Rattle.templates.specs.Table.{table}
 use Rattle.dialogues.specs.RegistryCalls.{RegCall, reg_call_of, is_settled}
 use Rattle.sequential_model.specs.Laws.{AreAnsweredBy}

@@ -5,13 +5,13 @@ use Rattle.board.specs.declared.entry.Shape.{Shape}
 use Rattle.board.specs.declared.entry.Shape.TheVariants.{Pad, Queue, Chain}
 use Rattle.board.specs.declared.entry.BoardEntry.{BoardEntry}
 use Rattle.board.specs.declared.entry.BoardEntry.TheVariants.{Collect}
-use Rattle.board.specs.Shapes.{is_pad, is_serial, is_chain, is_born, pad_born, queue_born, line_born, lists_born}
+use Rattle.board.specs.Shapes.{is_pad, is_serial, is_chain, is_born, pad_born, queue_born, has_queue_born, lists_born}
 use Rattle.board.specs.Entries.{entries_of, submissions, dequeues, dequeued, passed_on, finished, has, front, completes_from, tells, told_after, told, collected_in, collected, last_or, held_in, is_held}
-use Rattle.board.specs.Following.{GoesOn, IsRightAlone, AreRightAlone, IsOfOne, LeavesBirth, LeaveInOrder, FrontIsPassed, RunsOneByOne}
-use Rattle.board.specs.Handing.{HandsNothing}
+use Rattle.board.specs.NextEntry.{GoesOn, IsRightAlone, AreRightAlone, IsOfOne, LeavesBirth, LeaveInOrder, FrontIsPassed, RunsOneByOne}
+use Rattle.board.specs.HandedOut.{HandsNothing}
 use Rattle.board.specs.Legal.{Is, IsRightFor, LegalBoard}
 use Rattle.board.specs.Order.{handed_out, completed, started, backlogged, numbers_below, step_tells, AreRightForAfter, KeepsOrder, HandsOutTold, WaitsForEach, HandsOutAll, FrontIsAll, PadTellsFront, QueueTellsSteps, StartsBackloggedAlone}
-use Rattle.board.specs.Staying.{Joins, LeavesOthers, Holds}
+use Rattle.board.specs.PipelineHistory.{Joins, LeavesOthers, Holds}
 use Rattle.board.proofs.Lists.{filter_map-none, filter_map-some, last_or-append}
 use Rattle.transforms.specs.declared.ask.Ask.{Ask}
 
@@ -48,7 +48,7 @@ pub record Behaves (es : List (BoardEntry Ask)) : Type 0 where
   pub starts : (n : ℕ) → has n (started (told es)) ≡ true → has n (backlogged es) ≡ true
   pub within : collected es ≤ length (told es)
   pub numbers : map (λ (t : ℕ × ℕ). t.0) (dequeues es) ≡ numbers_below (dequeued es)
-  pub in_line : dequeued es ≤ length (submissions es)
+  pub queued : dequeued es ≤ length (submissions es)
   pub passed : front es ≤ passed_on es
   pub serial : Is is_serial es
       → (finished es ≡ numbers_below (length (finished es)))
@@ -97,7 +97,7 @@ behaves laws b p legal = record {
   starts = λ n. laws.starts b p n legal;
   within = within_run [] (entries_of p b) (omega arith) (laws.each b p legal);
   numbers = (laws.leave b p legal).0;
-  in_line = (laws.leave b p legal).1;
+  queued = (laws.leave b p legal).1;
   passed = laws.passed b p legal;
   serial = laws.serial b p legal;
 }
@@ -108,11 +108,11 @@ held_same es e none = ap (last_or false) (filter_map-none held_in es e none)
 -- ---- births
 
 -- a pad has no line, a queue no lists, and a chain is neither
-pub pad_no_line : (b : Option (ℕ × Shape)) → pad_born b ≡ true → line_born b ≡ true → ⊥
-pad_no_line None p q = cc
-pad_no_line (Some (maker, Pad lists)) p q = cc
-pad_no_line (Some (maker, Queue max)) p q = cc
-pad_no_line (Some (maker, Chain max lists)) p q = cc
+pub pad_no_queue : (b : Option (ℕ × Shape)) → pad_born b ≡ true → has_queue_born b ≡ true → ⊥
+pad_no_queue None p q = cc
+pad_no_queue (Some (maker, Pad lists)) p q = cc
+pad_no_queue (Some (maker, Queue max)) p q = cc
+pad_no_queue (Some (maker, Chain max lists)) p q = cc
 
 pub queue_no_lists : (b : Option (ℕ × Shape)) → queue_born b ≡ true → lists_born b ≡ true → ⊥
 queue_no_lists None p q = cc
@@ -126,7 +126,7 @@ lists_of_pad (Some (maker, Pad lists)) p = refl
 lists_of_pad (Some (maker, Queue max)) p = cc
 lists_of_pad (Some (maker, Chain max lists)) p = cc
 
-pub line_of_chain : (b : Option (ℕ × Shape)) → is_born is_chain b ≡ true → line_born b ≡ true
+pub line_of_chain : (b : Option (ℕ × Shape)) → is_born is_chain b ≡ true → has_queue_born b ≡ true
 line_of_chain None c = cc
 line_of_chain (Some (maker, Pad lists)) c = cc
 line_of_chain (Some (maker, Queue max)) c = cc
@@ -139,7 +139,7 @@ lists_of_chain (Some (maker, Queue max)) c = cc
 lists_of_chain (Some (maker, Chain max lists)) c = refl
 
 -- what has a line is a queue or a chain
-pub line_either : (b : Option (ℕ × Shape)) → line_born b ≡ true → (queue_born b ≡ true) ⊎ (is_born is_chain b ≡ true)
+pub line_either : (b : Option (ℕ × Shape)) → has_queue_born b ≡ true → (queue_born b ≡ true) ⊎ (is_born is_chain b ≡ true)
 line_either None h = cc
 line_either (Some (maker, Pad lists)) h = absurd cc
 line_either (Some (maker, Queue max)) h = inl refl

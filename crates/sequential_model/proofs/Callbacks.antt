@@ -5,7 +5,7 @@ use Rattle.kc_base.specs.declared.callback_list.Callback.TheVariants.{Started, D
 use Rattle.transforms.specs.declared.request.Finished.{Finished}
 use Rattle.transforms.specs.Finish.{finished_of}
 use Rattle.dialogues.specs.BoardCalls.{Asked}
-use Rattle.dialogues.specs.Requesting.{value_of}
+use Rattle.dialogues.specs.RequestCommands.{value_of}
 use Rattle.sequential_model.specs.Pipelines.{Pipeline}
 
 -- the request that is told to have started when the one of this number leaves a queue with so many behind it

@@ -13,7 +13,7 @@ use Rattle.board.specs.declared.entry.BoardEntry.TheVariants.{Born, Submit, Take
 use Rattle.board.specs.Entries.{caller_of}
 use Rattle.board.specs.Legal.{LegalBoard, AreRightAfter, IsNoWorker}
 use Rattle.board.specs.Legal.{IsRight as IsRightOn}
-use Rattle.templates.specs.Looking.{is_asked}
+use Rattle.templates.specs.LookResults.{is_asked}
 use Rattle.transforms.specs.declared.ask.Ask.{Ask}
 use Rattle.dialogues.specs.RegistryCalls.{RegCall}
 use Rattle.dialogues.specs.InTurn.{IsMade, AreInTurn}

@@ -24,7 +24,7 @@ use Rattle.alg_registry.specs.Legal.{ended_as, LegalReg, IsRight, MayFollow}
 use Rattle.alg_registry.specs.Made.{Templates, IsMade, MadeAfter, building, last_of, looks_for, outcome, outcomes, next_child, next_of, made_answer}
 use Rattle.alg_registry.proofs.Steps.{LegalReg-push}
 use Rattle.alg_registry.proofs.Stack.{texts-push, length-texts, ended-push, ended-new, claimed-there, looks-push, looks-fresh, larval_get, same}
-use Rattle.templates.specs.Looking.{NonePending}
+use Rattle.templates.specs.LookResults.{NonePending}
 use Rattle.templates.proofs.ChildLooks.{get_within}
 use Rattle.templates.proofs.Looks.{at_last, pending_driver, position_at}
 use Rattle.alg_registry.proofs.Looks.{began_new}

@@ -6,13 +6,13 @@ use Rattle.std.proofs.lemmas.Bool.Decides.{nat_tests}
 use Rattle.std.proofs.lemmas.List.{map-append}
 use Rattle.kc_base.specs.declared.callback_list.Callback.TheVariants.{Started, Done}
 use Rattle.board.specs.declared.entry.BoardEntry.{BoardEntry}
-use Rattle.board.specs.Shapes.{line_born}
+use Rattle.board.specs.Shapes.{has_queue_born}
 use Rattle.board.specs.Entries.{Notice, Starts, Completes, birth, submissions, dequeued, has, front, completes_from, told}
 use Rattle.board.specs.Order.{completed, started, backlogged, numbers_below}
 use Rattle.transforms.specs.declared.ask.Ask.{Ask}
 use Rattle.transforms.specs.Finish.{finished_of}
 use Rattle.dialogues.specs.BoardCalls.{Asked}
-use Rattle.dialogues.specs.Requesting.{value_of}
+use Rattle.dialogues.specs.RequestCommands.{value_of}
 use Rattle.sequential_model.specs.Pipelines.{Pipeline}
 use Rattle.sequential_model.proofs.Behaving.{Behaves}
 use Rattle.sequential_model.proofs.Callbacks.{drained}
@@ -20,19 +20,19 @@ use Rattle.sequential_model.proofs.Standing.{IsPipelineOf}
 
 -- ---- what left the line
 
-passed_line : (es : List (BoardEntry Ask)) → Behaves es → line_born (birth es) ≡ true → front es ≤ dequeued es
+passed_line : (es : List (BoardEntry Ask)) → Behaves es → has_queue_born (birth es) ≡ true → front es ≤ dequeued es
 passed_line es right line = subst (λ b. front es ≤ cond b (dequeued es) (length (submissions es))) line right.passed
 
 -- what was handed out had left the line
-pub left_before : (es : List (BoardEntry Ask)) (pipeline : Pipeline) → Behaves es → line_born (birth es) ≡ true → IsPipelineOf pipeline es → pipeline.delivered ≤ dequeued es
+pub left_before : (es : List (BoardEntry Ask)) (pipeline : Pipeline) → Behaves es → has_queue_born (birth es) ≡ true → IsPipelineOf pipeline es → pipeline.delivered ≤ dequeued es
 left_before es pipeline right line o =
     let few = right.waits in
     omega (arith, few, o.handed, passed_line es right line)
 
 -- where all is done, all left it
-pub all_left : (es : List (BoardEntry Ask)) → Behaves es → line_born (birth es) ≡ true → front es ≡ length (submissions es) → dequeued es ≡ length (submissions es)
+pub all_left : (es : List (BoardEntry Ask)) → Behaves es → has_queue_born (birth es) ≡ true → front es ≡ length (submissions es) → dequeued es ≡ length (submissions es)
 all_left es right line done =
-    let most = right.in_line in
+    let most = right.queued in
     omega (arith, most, done, passed_line es right line)
 
 -- ---- what a chain told

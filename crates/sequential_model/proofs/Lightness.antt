@@ -13,9 +13,9 @@ use Rattle.alg_registry.specs.Rows.{rows_of}
 use Rattle.alg_registry.specs.Legal.{LegalReg, MayFollow, IsRight}
 use Rattle.alg_registry.specs.Made.{Templates, Made, MadeAfter, IsMade, outcome}
 use Rattle.alg_registry.proofs.Fresh.{spec-rows_of}
-use Rattle.templates.specs.Looking.{Found, NonePending, found_in, found_as, entry_found}
+use Rattle.templates.specs.LookResults.{Found, NonePending, found_in, found_as, entry_found}
 use Rattle.templates.specs.Table.{table}
-use Rattle.templates.specs.Resolving.{weight_of}
+use Rattle.templates.specs.Resolution.{weight_of}
 use Rattle.sequential_model.specs.Registry.{PlainRegistry, LookedUp, look_up, look_found, found_of, found_at}
 use Rattle.sequential_model.proofs.Agreeing.{IsRegistryOf, is_building}
 use Rattle.sequential_model.proofs.Determined.{determined}

@@ -8,7 +8,7 @@ use Rattle.kc_base.specs.declared.callback_list.Callback.TheVariants.{Started, D
 use Rattle.transforms.specs.declared.ask.Ask.{Ask}
 use Rattle.transforms.specs.Finish.{finished_of}
 use Rattle.dialogues.specs.BoardCalls.{asked_by}
-use Rattle.dialogues.specs.Requesting.{value_of}
+use Rattle.dialogues.specs.RequestCommands.{value_of}
 use Rattle.dialogues.specs.BoardCalls.{Started as StartedLine, Completed, origin_in, notice_of}
 use Rattle.sequential_model.proofs.Callbacks.{starts_at, drained as drained_by_number}
 use Rattle.sequential_model.specs.Pipelines.{started_of, started_in, drained}

@@ -6,11 +6,11 @@ use Rattle.kc_base.specs.declared.error_numbers.Errno.{Errno}
 use Rattle.kc_base.specs.declared.error_numbers.Errno.TheVariants.{ENOENT}
 use Rattle.alg_names.specs.Name.{Tree, node, end, arg, IsName, a_word, a_template, one, args_of, list_of, spelling}
 use Rattle.alg_names.specs.Spelled.{tree_of}
-use Rattle.templates.specs.Asking.{AsksForLess}
+use Rattle.templates.specs.Requirements.{AsksForLess}
 use Rattle.templates.specs.declared.template_words.Template.{Template}
 use Rattle.templates.specs.declared.template_words.Template.TheVariants.{Gcm, CryptdPcrypt}
 use Rattle.templates.specs.Table.{table, template_at, only_one, children_of, asked, asked_by, spellings, is_allowed}
-use Rattle.templates.specs.Resolving.{weight, weight_of}
+use Rattle.templates.specs.Resolution.{weight, weight_of}
 use Rattle.sequential_model.proofs.Phases.{AreLighter}
 
 -- what is known of names

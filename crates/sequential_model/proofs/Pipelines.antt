@@ -17,7 +17,7 @@ use Rattle.board.specs.declared.entry.Entered.{Entered}
 use Rattle.board.specs.declared.entry.Entered.TheVariants.{InProgress, Busy, NoSpace}
 use Rattle.board.specs.declared.entry.BoardEntry.{BoardEntry}
 use Rattle.board.specs.declared.entry.BoardEntry.TheVariants.{Born, Enq, Deq, Done, Hold, Go, Collect}
-use Rattle.board.specs.Shapes.{is_pad, is_chain, is_serial, has_line, has_lists, is_born, pad_born, queue_born, line_born, lists_born, max_born}
+use Rattle.board.specs.Shapes.{is_pad, is_chain, is_serial, has_queue, has_lists, is_born, pad_born, queue_born, has_queue_born, lists_born, max_born}
 use Rattle.board.specs.Entries.{Starts, Completes, birth, accepted_in, submissions, dequeued_in, dequeues, dequeued as let_out, taken_in, takings, finished_in, finished, has, front, completes_from, told, collected_in, collected, last_or, is_held, verdict, waiting, starts, callback_of, delivered}
 use Rattle.board.specs.Legal.{IsRightFor}
 use Rattle.board.specs.Order.{handed_out, completed, numbers_below, step_tells, backlogged_in, backlogged, AreAllFinished}
@@ -28,7 +28,7 @@ use Rattle.dialogues.specs.BoardCalls.{Asked, asked_by, outcome}
 use Rattle.sequential_model.specs.Pipelines.{Pipeline, new_pipeline, next_number, is_all_delivered, asked_more, now_held, let_go, all_delivered, verdict_at, verdict_of}
 use Rattle.sequential_model.proofs.Callbacks.{drained, drained_from}
 use Rattle.sequential_model.specs.Pipelines.{has_room}
-use Rattle.sequential_model.proofs.Behaving.{BoardLaws, Behaves, pad_no_line, queue_no_lists, lists_of_pad, lists_of_chain, line_of_chain, line_either, any_shape}
+use Rattle.sequential_model.proofs.Behaving.{BoardLaws, Behaves, pad_no_queue, queue_no_lists, lists_of_pad, lists_of_chain, line_of_chain, line_either, any_shape}
 use Rattle.sequential_model.proofs.InLine.{left_before, all_left, calm_tells, calm_drain}
 use Rattle.sequential_model.proofs.Standing.{is_all_done, bound_born, starts_of, IsPipelineOf}
 use Rattle.sequential_model.proofs.Notices.{length_completes, untold_taken, untold_done, untold_more, untold_none, untold_all, queue_callbacks, pad_callbacks}
@@ -55,7 +55,7 @@ length_map (x ∷ xs) = ap suc (length_map xs)
 
 -- ---- bounds
 
-bound_of_line : (b : Option (ℕ × Shape)) → line_born b ≡ true → bound_born b ≡ Some (max_born b)
+bound_of_line : (b : Option (ℕ × Shape)) → has_queue_born b ≡ true → bound_born b ≡ Some (max_born b)
 bound_of_line None q = cc
 bound_of_line (Some (maker, Pad lists)) q = cc
 bound_of_line (Some (maker, Queue max)) q = refl
@@ -97,7 +97,7 @@ module _ (laws : BoardLaws) where
   stays_quiet : (es : List (BoardEntry Ask)) (e : BoardEntry Ask) (pipeline pipeline' : Pipeline) → is_some (birth es) ≡ true → handed_out (es ++ e ∷ []) ≡ handed_out es
       → accepted_in e ≡ None → dequeued_in e ≡ None → finished_in e ≡ None → step_tells e ≡ None → collected_in e ≡ None
       → pipeline'.bound ≡ pipeline.bound → pipeline'.chained ≡ pipeline.chained → pipeline'.delivered ≡ pipeline.delivered → pipeline'.undelivered ≡ pipeline.undelivered
-      → (pipeline'.held_throughout ≡ true → (line_born (birth es) ≡ true) × (is_held (es ++ e ∷ []) ≡ true) × (let_out es ≡ pipeline.delivered))
+      → (pipeline'.held_throughout ≡ true → (has_queue_born (birth es) ≡ true) × (is_held (es ++ e ∷ []) ≡ true) × (let_out es ≡ pipeline.delivered))
       → IsPipelineOf pipeline es → IsPipelineOf pipeline' (es ++ e ∷ [])
   stays_quiet es e pipeline pipeline' born ho a t f n c sb sc st sa steady o =
       let be = laws.birth es e born in
@@ -114,7 +114,7 @@ module _ (laws : BoardLaws) where
         asks = rw (se, st) (o.asks ∙ sym sa);
         untold = λ q. rw (be, se, fe, te, ce, ne, st) (o.untold (sym (ap queue_born be) ∙ q));
         calm = λ k. calm_still es e pipeline pipeline' born a st (o.calm (sym sc ∙ k));
-        steady = λ s. let r = steady s in (ap line_born be ∙ r.0, r.1, te ∙ (r.2 ∙ sym st));
+        steady = λ s. let r = steady s in (ap has_queue_born be ∙ r.0, r.1, te ∙ (r.2 ∙ sym st));
       }
 
   -- ---- on a pad or a chain
@@ -135,7 +135,7 @@ module _ (laws : BoardLaws) where
         asks = rw se o.asks;
         untold = λ q. absurd (queue_no_lists (birth es) (sym (ap queue_born be) ∙ q) lists);
         calm = λ k. calm_still es e pipeline pipeline born a refl (o.calm k);
-        steady = λ s. let w = o.steady s in (ap line_born be ∙ w.0, he ∙ w.1, te ∙ w.2);
+        steady = λ s. let w = o.steady s in (ap has_queue_born be ∙ w.0, he ∙ w.1, te ∙ w.2);
       }
 
   -- one request more is owed
@@ -158,8 +158,8 @@ module _ (laws : BoardLaws) where
         within = more.0;
         asks = more.1;
         untold = λ q. absurd (queue_no_lists (birth es) (sym (ap queue_born be) ∙ q) (lists_of_pad (birth es) pad));
-        calm = λ k. absurd (pad_no_line (birth es) pad (line_of_chain (birth es) (o.chained ∙ k)));
-        steady = λ s. absurd (pad_no_line (birth es) pad (o.steady s).0);
+        calm = λ k. absurd (pad_no_queue (birth es) pad (line_of_chain (birth es) (o.chained ∙ k)));
+        steady = λ s. absurd (pad_no_queue (birth es) pad (o.steady s).0);
       }
 
   -- ---- on a queue
@@ -178,7 +178,7 @@ module _ (laws : BoardLaws) where
   Finds backlog pipeline es =
       ((let_out es ≡ pipeline.delivered) × (not (pipeline.chained && backlog) ≡ true)) ⊎ (length (submissions es) + 1 ≤ pipeline.delivered + max_born (birth es))
 
-  room : (backlog : Bool) (pipeline : Pipeline) (es : List (BoardEntry Ask)) → IsPipelineOf pipeline es → line_born (birth es) ≡ true → has_room backlog pipeline ≡ true → Finds backlog pipeline es
+  room : (backlog : Bool) (pipeline : Pipeline) (es : List (BoardEntry Ask)) → IsPipelineOf pipeline es → has_queue_born (birth es) ≡ true → has_room backlog pipeline ≡ true → Finds backlog pipeline es
   room backlog pipeline es o line roomy = by pipeline.held_throughout refl roomy
     where
       of_bound : (b : Option ℕ) → pipeline.bound ≡ b → option_map_or (λ max. nat_lt (length pipeline.undelivered) max) b true ≡ true → Finds backlog pipeline es
@@ -217,7 +217,7 @@ module _ (laws : BoardLaws) where
   not_true false c p q e = cc
 
   -- what a chain accepts fits its queue, and isn't in the backlog
-  fits : (es : List (BoardEntry Ask)) (caller pipe : ℕ) (ask : Arc Ask Global) (backlog : Bool) (x : Entered) (pipeline : Pipeline) → Behaves es → line_born (birth es) ≡ true → x ≡ verdict es backlog
+  fits : (es : List (BoardEntry Ask)) (caller pipe : ℕ) (ask : Arc Ask Global) (backlog : Bool) (x : Entered) (pipeline : Pipeline) → Behaves es → has_queue_born (birth es) ≡ true → x ≡ verdict es backlog
       → accepted_in (Enq caller pipe ask backlog x) ≡ Some (arc_value ask) → Finds backlog pipeline es → IsPipelineOf pipeline es → pipeline.chained ≡ true
       → (length (submissions es) + 1 ≤ pipeline.delivered + max_born (birth es)) × (backlogged_in (Enq caller pipe ask backlog x) ≡ None)
   fits es caller pipe ask backlog (InProgress n) pipeline right line is a finds o k = (by finds, refl)
@@ -240,12 +240,12 @@ module _ (laws : BoardLaws) where
           absurd (omega (arith, calm, w, left_before es pipeline right line o))
   fits es caller pipe ask backlog NoSpace pipeline right line is a finds o k = absurd cc
 
-  pub entered : (es : List (BoardEntry Ask)) (caller pipe : ℕ) (ask : Arc Ask Global) (backlog : Bool) (x : Entered) (pipeline : Pipeline) → Behaves es → line_born (birth es) ≡ true → x ≡ verdict es backlog
+  pub entered : (es : List (BoardEntry Ask)) (caller pipe : ℕ) (ask : Arc Ask Global) (backlog : Bool) (x : Entered) (pipeline : Pipeline) → Behaves es → has_queue_born (birth es) ≡ true → x ≡ verdict es backlog
       → handed_out (es ++ Enq caller pipe ask backlog x ∷ []) ≡ handed_out es → accepted_in (Enq caller pipe ask backlog x) ≡ Some (arc_value ask) → is_held (es ++ Enq caller pipe ask backlog x ∷ []) ≡ is_held es
       → has_room backlog pipeline ≡ true → IsPipelineOf pipeline es → IsPipelineOf (asked_more (asked_by (arc_value ask)) pipeline) (es ++ Enq caller pipe ask backlog x ∷ [])
   entered es caller pipe ask backlog x pipeline right line is ho a he roomy o =
       let e : BoardEntry Ask = Enq caller pipe ask backlog x in
-      let be = laws.birth es e (born_some has_line (birth es) line) in
+      let be = laws.birth es e (born_some has_queue (birth es) line) in
       let se : submissions (es ++ e ∷ []) ≡ submissions es ++ arc_value ask ∷ [] = filter_map-some accepted_in es e (arc_value ask) a in
       let sl : length (submissions es ++ arc_value ask ∷ []) ≡ length (submissions es) + 1 = length-append (submissions es) (arc_value ask ∷ []) in
       let te : let_out (es ++ e ∷ []) ≡ let_out es = ap length (filter_map-none dequeued_in es e refl) in
@@ -266,7 +266,7 @@ module _ (laws : BoardLaws) where
         calm = λ k.
             let fit = fits es caller pipe ask backlog x pipeline right line is a finds o k in
             (rw (be, se, sl) fit.0, filter_map-none backlogged_in es e fit.1 ∙ (o.calm k).1);
-        steady = λ s. let r = o.steady s in (ap line_born be ∙ r.0, he ∙ r.1, te ∙ r.2);
+        steady = λ s. let r = o.steady s in (ap has_queue_born be ∙ r.0, he ∙ r.1, te ∙ r.2);
       }
 
   -- of what a legal queue told so much is collected at most
@@ -372,26 +372,26 @@ module _ (laws : BoardLaws) where
         asks = rw se o.asks;
         untold = λ q'. rw (be, se, fe, fl, te, ce, ne, de) u;
         calm = λ k. absurd (queue_no_lists (birth es) q (lists_of_chain (birth es) (o.chained ∙ k)));
-        steady = λ s. let w = o.steady s in (ap line_born be ∙ w.0, he ∙ w.1, te ∙ w.2);
+        steady = λ s. let w = o.steady s in (ap has_queue_born be ∙ w.0, he ∙ w.1, te ∙ w.2);
       }
 
   -- ---- held, and let go
 
-  none_owed : (pipeline : Pipeline) (es : List (BoardEntry Ask)) → Behaves es → line_born (birth es) ≡ true → is_all_delivered pipeline.undelivered ≡ true → IsPipelineOf pipeline es → let_out es ≡ pipeline.delivered
+  none_owed : (pipeline : Pipeline) (es : List (BoardEntry Ask)) → Behaves es → has_queue_born (birth es) ≡ true → is_all_delivered pipeline.undelivered ≡ true → IsPipelineOf pipeline es → let_out es ≡ pipeline.delivered
   none_owed pipeline es right line none o =
-      let in_line = right.in_line in
-      omega (arith, in_line, left_before es pipeline right line o, owed_count pipeline es o, empty pipeline.undelivered none)
+      let queued = right.queued in
+      omega (arith, queued, left_before es pipeline right line o, owed_count pipeline es o, empty pipeline.undelivered none)
     where
       empty : (asks : List Asked) → is_all_delivered asks ≡ true → length asks ≡ 0
       empty [] e = refl
       empty (x ∷ asks) e = absurd cc
 
-  pub held_now : (es : List (BoardEntry Ask)) (caller pipe : ℕ) (pipeline : Pipeline) → Behaves es → line_born (birth es) ≡ true → handed_out (es ++ Hold caller pipe ∷ []) ≡ handed_out es → is_held (es ++ Hold caller pipe ∷ []) ≡ true
+  pub held_now : (es : List (BoardEntry Ask)) (caller pipe : ℕ) (pipeline : Pipeline) → Behaves es → has_queue_born (birth es) ≡ true → handed_out (es ++ Hold caller pipe ∷ []) ≡ handed_out es → is_held (es ++ Hold caller pipe ∷ []) ≡ true
       → IsPipelineOf pipeline es → IsPipelineOf (now_held pipeline) (es ++ Hold caller pipe ∷ [])
   held_now es caller pipe pipeline right line ho he o =
-      stays_quiet es (Hold caller pipe) pipeline (now_held pipeline) (born_some has_line (birth es) line) ho refl refl refl refl refl refl refl refl refl (λ s. by pipeline.held_throughout refl s) o
+      stays_quiet es (Hold caller pipe) pipeline (now_held pipeline) (born_some has_queue (birth es) line) ho refl refl refl refl refl refl refl refl refl (λ s. by pipeline.held_throughout refl s) o
     where
-      by : (b : Bool) → pipeline.held_throughout ≡ b → (b || is_all_delivered pipeline.undelivered) ≡ true → (line_born (birth es) ≡ true) × (is_held (es ++ Hold caller pipe ∷ []) ≡ true) × (let_out es ≡ pipeline.delivered)
+      by : (b : Bool) → pipeline.held_throughout ≡ b → (b || is_all_delivered pipeline.undelivered) ≡ true → (has_queue_born (birth es) ≡ true) × (is_held (es ++ Hold caller pipe ∷ []) ≡ true) × (let_out es ≡ pipeline.delivered)
       by true e s = let w = o.steady e in (w.0, he, w.2)
       by false e s = (line, he, none_owed pipeline es right line s o)
 
@@ -421,9 +421,9 @@ module _ (laws : BoardLaws) where
   all_finished : (es : List (BoardEntry Ask)) → Behaves es → queue_born (birth es) ≡ true → AreAllFinished es → (length (finished es) ≡ length (submissions es)) × (let_out es ≡ length (submissions es))
   all_finished es right q all =
       let few = (right.serial q).1 in
-      let in_line = right.in_line in
+      let queued = right.queued in
       let most : length (submissions es) ≤ length (finished es) = by (cases_lt (length (finished es)) (length (submissions es))) (right.serial q).0 in
-      (omega (arith, few, in_line, most), omega (arith, few, in_line, most))
+      (omega (arith, few, queued, most), omega (arith, few, queued, most))
     where
       by : (length (finished es) < length (submissions es)) ⊎ (length (submissions es) ≤ length (finished es)) → finished es ≡ numbers_below (length (finished es)) → length (submissions es) ≤ length (finished es)
       by (inr le) order = le
@@ -492,7 +492,7 @@ module _ (laws : BoardLaws) where
             let none : drop to (filter_map step_tells es) ≡ [] = drop_all to (filter_map step_tells es) (to_all ∙ ap length (right.queue queue)) in
             rw (be, se, te, fe, ce, ne, none, f.0, f.1, many) (untold_none (max_born (birth es)) (length (submissions es)) (length (submissions es)));
         calm = λ k. (rw (be, se) (omega (arith, many)), filter_map-none backlogged_in es e refl ∙ (o.calm k).1);
-        steady = λ s. let w = o.steady s in (ap line_born be ∙ w.0, he ∙ w.1, te ∙ (all_left es right w.0 front_all ∙ sym many));
+        steady = λ s. let w = o.steady s in (ap has_queue_born be ∙ w.0, he ∙ w.1, te ∙ (all_left es right w.0 front_all ∙ sym many));
       }
 
   -- ---- born
@@ -513,7 +513,7 @@ module _ (laws : BoardLaws) where
   -- ---- verdicts
 
   -- a request that meets room is answered by what is owed as by what waits
-  pub waits_as : (es : List (BoardEntry Ask)) (pipeline : Pipeline) (backlog : Bool) → Behaves es → line_born (birth es) ≡ true → has_room backlog pipeline ≡ true → IsPipelineOf pipeline es → verdict es backlog ≡ verdict_of backlog pipeline
+  pub waits_as : (es : List (BoardEntry Ask)) (pipeline : Pipeline) (backlog : Bool) → Behaves es → has_queue_born (birth es) ≡ true → has_room backlog pipeline ≡ true → IsPipelineOf pipeline es → verdict es backlog ≡ verdict_of backlog pipeline
   waits_as es pipeline backlog right line roomy o =
       (λ i. cond (nat_lt (waiting es) (max_born (birth es))) (InProgress (number i)) (cond backlog (Busy (number i)) NoSpace))
       ∙ (ap (λ b. cond b (InProgress (next_number pipeline)) (cond backlog (Busy (next_number pipeline)) NoSpace)) (by (room backlog pipeline es o line roomy))
@@ -531,4 +531,4 @@ module _ (laws : BoardLaws) where
       by : Finds backlog pipeline es → nat_lt (waiting es) (max_born (birth es)) ≡ nat_lt (length pipeline.undelivered) (max_born (birth es))
       by (inl none) = same_tests (waiting es) (length pipeline.undelivered) (max_born (birth es)) (omega (arith, none.0, number))
       by (inr calm) =
-          both_less (waiting es) (length pipeline.undelivered) (max_born (birth es)) (omega (arith, calm, left_before es pipeline right line o, right.in_line)) (omega (arith, calm, number))
+          both_less (waiting es) (length pipeline.undelivered) (max_born (birth es)) (omega (arith, calm, left_before es pipeline right line o, right.queued)) (omega (arith, calm, number))

@@ -12,12 +12,12 @@ use Rattle.board.specs.declared.entry.Entered.{Entered}
 use Rattle.board.specs.declared.entry.Entered.TheVariants.{InProgress, Busy, NoSpace}
 use Rattle.board.specs.declared.entry.BoardEntry.{BoardEntry}
 use Rattle.board.specs.declared.entry.BoardEntry.TheVariants.{Born, Submit, Take, Finish, Enq, Deq, Done, Hold, Go, Collect, Close, Share, Mask, Shut}
-use Rattle.board.specs.Shapes.{is_pad, has_line}
+use Rattle.board.specs.Shapes.{is_pad, has_queue}
 use Rattle.board.specs.Entries.{is_of, entries_of, birth_in, birth, accepted_in, submissions, front, is_held, delivered}
-use Rattle.board.specs.Handing.{is_collect}
+use Rattle.board.specs.HandedOut.{is_collect}
 use Rattle.board.specs.Legal.{IsRight, IsRightFor, LegalBoard, AreRightAfter, pipelines}
 use Rattle.board.specs.Order.{handed_out, completed, AreAllFinished}
-use Rattle.board.specs.Staying.{is_work}
+use Rattle.board.specs.PipelineHistory.{is_work}
 use Rattle.board.proofs.Lists.{filter_map-none, filter_map-some, length-numbers}
 use Rattle.board.proofs.Keeping.{born_some, maker_some}
 use Rattle.transforms.specs.declared.ask.Ask.{Ask}
@@ -230,7 +230,7 @@ module _ (laws : BoardLaws) where
   pub moves_enter : (pipelines : List Pipeline) (b : List (BoardEntry Ask)) (by p : ℕ) (ask : Arc Ask Global) (backlog : Bool) (a : Entered) → LegalBoard b → IsRight b (Enq by p ask backlog a) → ArePipelinesOf pipelines b → Moves pipelines b (Enq by p ask backlog a) (Some (Enqueues p (asked_by (arc_value ask)) backlog a))
   moves_enter pipelines b by p ask backlog a legal r are still = (
     by_answer a r still,
-    if_there pipelines b p (λ (pipeline : Pipeline). a ≡ verdict_of backlog pipeline) are (born_some has_line (birth (entries_of p b)) r.1.1.0) (λ pipeline some. r.1.2 ∙ waits_as laws (entries_of p b) pipeline backlog (behaves laws b p legal) r.1.1.0 (roomy_there backlog pipelines p pipeline some still) (are.each p pipeline some)),
+    if_there pipelines b p (λ (pipeline : Pipeline). a ≡ verdict_of backlog pipeline) are (born_some has_queue (birth (entries_of p b)) r.1.1.0) (λ pipeline some. r.1.2 ∙ waits_as laws (entries_of p b) pipeline backlog (behaves laws b p legal) r.1.1.0 (roomy_there backlog pipelines p pipeline some still) (are.each p pipeline some)),
   )
     where
       accepts : (x : Entered) → IsRight b (Enq by p ask backlog x) → accepted_in (Enq by p ask backlog x) ≡ Some (arc_value ask) → option_map_or (has_room backlog) (slice_get pipelines p) true ≡ true → ArePipelinesOf (at_pipe (asked_more (asked_by (arc_value ask))) p pipelines) (b ++ Enq by p ask backlog x ∷ [])
@@ -245,7 +245,7 @@ module _ (laws : BoardLaws) where
       by_answer NoSpace r' m =
           let e : BoardEntry Ask = Enq by p ask backlog NoSpace in
           pipes_same pipelines b e p (at_pipe_of b e p (own_pipe p) refl r') are
-          (λ pipeline o. left_alone laws (entries_of p b) e pipeline (born_some has_line (birth (entries_of p b)) r'.1.1.0) (handed_still b e p (own_pipe p) refl) refl refl refl refl refl (held_same (entries_of p b) e refl) o)
+          (λ pipeline o. left_alone laws (entries_of p b) e pipeline (born_some has_queue (birth (entries_of p b)) r'.1.1.0) (handed_still b e p (own_pipe p) refl) refl refl refl refl refl (held_same (entries_of p b) e refl) o)
 
   pub moves_hold : (pipelines : List Pipeline) (b : List (BoardEntry Ask)) (by p : ℕ) → LegalBoard b → IsRight b (Hold by p) → ArePipelinesOf pipelines b → Moves pipelines b (Hold by p) (Some (Holds p))
   moves_hold pipelines b by p legal r are still =
@@ -259,7 +259,7 @@ module _ (laws : BoardLaws) where
   moves_go pipelines b by p legal r are still =
       let e : BoardEntry Ask = Go by p in (
         pipes_at pipelines b e p let_go (at_pipe_of b e p (own_pipe p) refl r) are
-            (λ pipeline some o. let_go_now laws (entries_of p b) by p pipeline (born_some has_line (birth (entries_of p b)) r.1.1.0) (handed_still b e p (own_pipe p) refl) o),
+            (λ pipeline some o. let_go_now laws (entries_of p b) by p pipeline (born_some has_queue (birth (entries_of p b)) r.1.1.0) (handed_still b e p (own_pipe p) refl) o),
         tt,
       )
 

@@ -3,13 +3,13 @@ use Rattle.std.specs.Prelude.{ℕ, zero, suc, ◌+◌, ◌≡◌, ◌≤◌, ◌
 use Rattle.std.specs.List.{filter_map}
 use Rattle.board.specs.declared.entry.BoardEntry.{BoardEntry}
 use Rattle.board.specs.declared.entry.Shape.{Shape}
-use Rattle.board.specs.Shapes.{is_chain, is_born, queue_born, line_born, max_born}
+use Rattle.board.specs.Shapes.{is_chain, is_born, queue_born, has_queue_born, max_born}
 use Rattle.board.specs.Entries.{Notice, Starts, Completes, entries_of, birth, submissions, dequeued, finished, front, collected, is_held, caller_of}
 use Rattle.board.specs.Legal.{pipelines}
 use Rattle.board.specs.Order.{handed_out, completed, backlogged, step_tells}
-use Rattle.board.specs.Staying.{is_work}
+use Rattle.board.specs.PipelineHistory.{is_work}
 use Rattle.transforms.specs.declared.ask.Ask.{Ask}
-use Rattle.dialogues.specs.Allocating.{bound_of}
+use Rattle.dialogues.specs.AllocAndFree.{bound_of}
 use Rattle.dialogues.specs.BoardCalls.{asked_by}
 use Rattle.sequential_model.specs.Pipelines.{Pipeline}
 
@@ -50,7 +50,7 @@ pub record IsPipelineOf (pipeline : Pipeline) (es : List (BoardEntry Ask)) : Typ
   pub untold : queue_born (birth es) ≡ true
       → IsUntold (max_born (birth es)) (length (submissions es)) pipeline.delivered (length (finished es)) (dequeued es) (drop (collected es) (filter_map step_tells es))
   pub calm : pipeline.chained ≡ true → (length (submissions es) ≤ pipeline.delivered + max_born (birth es)) × (backlogged es ≡ [])
-  pub steady : pipeline.held_throughout ≡ true → (line_born (birth es) ≡ true) × (is_held es ≡ true) × (dequeued es ≡ pipeline.delivered)
+  pub steady : pipeline.held_throughout ≡ true → (has_queue_born (birth es) ≡ true) × (is_held es ≡ true) × (dequeued es ≡ pipeline.delivered)
 
 -- the plain pipelines are those of the history, by their numbers
 pub record ArePipelinesOf (plain : List Pipeline) (b : List (BoardEntry Ask)) : Type 0 where

@@ -6,10 +6,10 @@ use Rattle.board.specs.declared.entry.Entered.TheVariants.{InProgress, Busy, NoS
 use Rattle.board.specs.declared.entry.Shape.{Shape}
 use Rattle.board.specs.Shapes.{is_chain}
 use Rattle.transforms.specs.Finish.{finished_of}
-use Rattle.dialogues.specs.Allocating.{bound_of}
+use Rattle.dialogues.specs.AllocAndFree.{bound_of}
 use Rattle.dialogues.specs.BoardCalls.{Asked, origin_by, Notice, Started, Completed, BoardCall, Creates, Submits, Enqueues, Holds, Goes, Collects, Closes, Shares, Masks, Shuts}
 use Rattle.dialogues.specs.Questions.{BoardQuestion, BoardAnswer, Create, Submit, Enqueue, Hold, Go, Poll, Drain, Close, Share, Mask, Shut}
-use Rattle.dialogues.specs.Requesting.{value_of}
+use Rattle.dialogues.specs.RequestCommands.{value_of}
 
 -- How many requests may wait in a queue before it is full, none for a pad; whether its requests go on to a pad behind
 -- the queue; how many of the requests that it accepted were handed out; those that weren't, the oldest first; and

@@ -16,8 +16,8 @@ use Rattle.alg_registry.specs.Answers.{built_answer, is_template, enlist_answer,
 use Rattle.alg_registry.specs.Held.{is_plain_driver}
 use Rattle.alg_registry.specs.Larvals.{best_by}
 use Rattle.alg_registry.specs.Made.{Templates, with_spec}
-use Rattle.templates.specs.Looking.{Found, Entry, Fault}
-use Rattle.templates.specs.Resolving.{weight_of}
+use Rattle.templates.specs.LookResults.{Found, Entry, Fault}
+use Rattle.templates.specs.Resolution.{weight_of}
 use Rattle.templates.specs.Table.{table}
 use Rattle.dialogues.specs.Questions.{RegQuestion, RegAnswer, Enlist, Look, Unlist, Get, Put, Count, ListAll}
 use Rattle.dialogues.specs.RegistryCalls.{RegCall, Enlists, Looks, Unlists, Gets, Puts}

@@ -4,7 +4,7 @@ use Rattle.std.specs.Prelude.{slice_get}
 use Rattle.std.specs.Option.{option_map_or}
 use Rattle.std.proofs.lemmas.Bool.{and_parts}
 use Rattle.board.specs.declared.entry.Entered.TheVariants.{NoSpace}
-use Rattle.templates.specs.Looking.{Found}
+use Rattle.templates.specs.LookResults.{Found}
 use Rattle.dialogues.specs.RegistryCalls.{RegCall}
 use Rattle.dialogues.specs.BoardCalls.{BoardCall}
 use Rattle.dialogues.specs.Questions.{RegQuestion, RegAnswer, Enlist, Look, Unlist, Get, Put, Count, ListAll, reg_call, reg_answer, BoardQuestion, BoardAnswer, Create, Submit, Enqueue, Hold, Go, Poll, Drain, Close, Share, Mask, Shut, board_call, board_answer}
@@ -14,7 +14,7 @@ use Rattle.dialogues.specs.ScriptState.{ScriptState}
 use Rattle.sequential_model.specs.Laws.{IsAnsweredBy, AreAnsweredBy, ThereIs, IsTimelessCall, IsToldBy, AreToldBy}
 use Rattle.sequential_model.specs.Pipelines.{Pipeline, next_number, verdict_of, drained_from, reply_in, is_timeless, pipelines_after}
 use Rattle.sequential_model.specs.Registry.{PlainRegistry, answer_in, registry_after}
-use Rattle.settled_scripts.specs.Passing.{IsAsPassed}
+use Rattle.settled_scripts.specs.PlainRuns.{IsAsPassed}
 use Rattle.settled_scripts.specs.Settled.{Passed, pass}
 
 -- ---- answers

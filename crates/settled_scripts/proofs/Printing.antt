@@ -13,7 +13,7 @@ use Rattle.dialogues.specs.Dialogues.{Dialogue, Ends, Says, Asks, Posts}
 use Rattle.dialogues.specs.GoingOn.{InTurnByOne}
 use Rattle.dialogues.specs.InTurn.{AreInTurn}
 use Rattle.dialogues.specs.Lines.{line_dialogue, lines_dialogue, script}
-use Rattle.dialogues.specs.Piping.{end}
+use Rattle.dialogues.specs.PipelineCommands.{end}
 use Rattle.dialogues.specs.Questions.{reg_call, board_call}
 use Rattle.dialogues.specs.RegistryCalls.{reg_calls}
 use Rattle.dialogues.specs.Texts.{turn_in}
@@ -23,8 +23,8 @@ use Rattle.dialogues.specs.Widths.{command_width, width_of, widest}
 use Rattle.sequential_model.specs.Laws.{AnswersArePlain, AreAnsweredBy, RepliesArePlain, AreToldBy}
 use Rattle.sequential_model.specs.Pipelines.{Pipeline, reply_in, is_timeless, pipelines_after}
 use Rattle.sequential_model.specs.Registry.{PlainRegistry, first_registry, answer_in, registry_after}
-use Rattle.settled_scripts.specs.Printing.{PrintsPlain}
-use Rattle.settled_scripts.specs.Passing.{passed_then, PassesFollow, PostsFollow, TurnsArePlain}
+use Rattle.settled_scripts.specs.PrintedText.{PrintsPlain}
+use Rattle.settled_scripts.specs.PlainRuns.{passed_then, PassesFollow, PostsFollow, TurnsArePlain}
 use Rattle.settled_scripts.specs.Settled.{Passed, saying, if_timeless, is_settled_line, pass, passed, plain_text}
 use Rattle.settled_scripts.proofs.Plain.{turn_plain}
 use Rattle.settled_scripts.proofs.Workers.{line_same}

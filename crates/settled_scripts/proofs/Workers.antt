@@ -15,13 +15,13 @@ use Rattle.script_text.specs.declared.commands.Command.TheVariants as command
 use Rattle.script_text.specs.declared.commands.Line.{Line}
 use Rattle.script_text.specs.declared.commands.Line.TheVariants as line
 use Rattle.templates.specs.declared.driver_plans.Plan.{Plan}
-use Rattle.templates.specs.Looking.{Found, Entry, Fault}
+use Rattle.templates.specs.LookResults.{Found, Entry, Fault}
 use Rattle.reply_text.specs.declared.answers.Answer.TheVariants as said
 use Rattle.dialogues.specs.Names.{name_read, is_queue_length, plan_for}
 use Rattle.dialogues.specs.RegistryCalls.{Looks, Gets}
-use Rattle.dialogues.specs.Allocating.{lists_beside, binds, binds_plan, creates, is_chained, shape_for, new_live, and_live, fault_of}
+use Rattle.dialogues.specs.AllocAndFree.{lists_beside, binds, binds_plan, creates, is_chained, shape_for, new_live, and_live, fault_of}
 use Rattle.dialogues.specs.Dialogues.{Dialogue, Asks, unless, answers_errno, says, for_live, missing}
-use Rattle.dialogues.specs.Piping.{kept_bits, if_pad, with_pad, masks}
+use Rattle.dialogues.specs.PipelineCommands.{kept_bits, if_pad, with_pad, masks}
 use Rattle.dialogues.specs.Questions.{Look}
 use Rattle.dialogues.specs.Lines.{command_dialogue, line_dialogue}
 use Rattle.dialogues.specs.ScriptState.{ScriptState, Live, PipelineState, live_of, shared_of, either, with_pipe}

@@ -1,4 +1,4 @@
 pub mod Settled
-pub mod Passing
-pub mod Printing
+pub mod PlainRuns
+pub mod PrintedText
 pub mod Examples

@@ -2,8 +2,8 @@
 
 ghost use Rattle.std.specs.Prelude.{◌≡◌};
 ghost use Rattle.settled_scripts.specs.Examples.{answers_of, kinds_of, sharing, sharing_answers, unregistering, unregistering_answers, held_first, held_first_kinds, two_at_a_time, three_at_once, held_late, polling, held_chain, held_chain_kinds, backlog_of_chain, masked, masked_kinds, masked_to_second};
-ghost use Rattle.settled_scripts.specs.Passing.{PassesFollow, PostsFollow, TurnsArePlain};
-ghost use Rattle.settled_scripts.specs.Printing.{PrintsPlain};
+ghost use Rattle.settled_scripts.specs.PlainRuns.{PassesFollow, PostsFollow, TurnsArePlain};
+ghost use Rattle.settled_scripts.specs.PrintedText.{PrintsPlain};
 ghost use Rattle.settled_scripts.specs.Settled.{IsSettled};
 
 use dialogues::calls_at_once;

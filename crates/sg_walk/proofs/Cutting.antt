@@ -4,7 +4,7 @@ use Rattle.std.specs.List.{sum}
 use Rattle.std.proofs.lemmas.List.Sums.{sum_by-cons}
 use Rattle.std.specs.Prelude.{Option, Some, None}
 use Rattle.sg_walk.specs.Segments.{cut_sizes}
-use Rattle.sg_walk.specs.Lying.{LieIn, cut_within}
+use Rattle.sg_walk.specs.Layout.{LieIn, cut_within}
 
 -- together they are the first n
 pub sum-cut_sizes : (n : ℕ) (sizes : List ℕ) → sum (cut_sizes n sizes) ≡ min n (sum sizes)

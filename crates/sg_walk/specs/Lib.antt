@@ -1,3 +1,3 @@
-pub mod Lying
+pub mod Layout
 pub mod Segments
 pub mod Stepped

@@ -30,7 +30,7 @@ impl Model for Segs {
     ghost use Rattle.std.specs.Prelude.{◌≡◌, length, map};
     ghost use Rattle.std.specs.List.{concat};
     ghost use Rattle.sg_walk.specs.Segments.{Segmented};
-    ghost use Rattle.sg_walk.specs.Lying.{sizes_in, LieIn};
+    ghost use Rattle.sg_walk.specs.Layout.{sizes_in, LieIn};
 
     ghost Value = { Segmented };
 

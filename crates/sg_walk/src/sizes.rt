@@ -2,7 +2,7 @@
 
 ghost use Rattle.std.specs.Prelude.{◌≡◌, length, IfOk};
 ghost use Rattle.sg_walk.specs.Segments.{cut_sizes};
-ghost use Rattle.sg_walk.specs.Lying.{cut_within};
+ghost use Rattle.sg_walk.specs.Layout.{cut_within};
 
 use std::alloc::{AllocError, Global};
 use std::marker::Model;

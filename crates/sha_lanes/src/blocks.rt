@@ -28,7 +28,8 @@ fn take_first(state: &mut [u32; 8], rows: &mut [[u32; 8]; 64], blocks: &[u8], co
     }
 }
 
-/// Takes in the whole blocks of fewer bytes than eight have. The words of fewer than three are computed sooner one by one.
+/// Takes in the whole blocks of fewer bytes than eight have. The words of fewer than three are computed sooner one by
+/// one.
 fn take_rest(state: &mut [u32; 8], rows: &mut [[u32; 8]; 64], bytes: &[u8])
     requires { length bytes.now < 512 }
     ensures { state.new ≡ hash_after state.old bytes.now (length bytes.now / 64) }

@@ -169,7 +169,8 @@ fn all_steps(rows: &mut [[u32; 8]; 64], blocks: &[u8], state: [u32x8; 8]) -> [u3
     v
 }
 
-/// Takes a block into each of eight hash values (6.2.2): lane `n` has the value `n`, and the block `n` of the bytes. The words stand in `rows`.
+/// Takes a block into each of eight hash values (6.2.2): lane `n` has the value `n`, and the block `n` of the bytes.
+/// The words stand in `rows`.
 #[tactic(auto, unfolding(sha2::specs::Sha256::compress))]
 pub fn compress_in_step(state: [u32x8; 8], rows: &mut [[u32; 8]; 64], blocks: &[u8]) -> [u32x8; 8]
     requires { length blocks.now ≡ 512 }

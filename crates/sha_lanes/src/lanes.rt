@@ -77,7 +77,8 @@ pub(crate) fn next_row(rows: &[[u32; 8]; 64], t: usize) -> u32x8
         + vector(&rows[t - 16])
 }
 
-/// Writes the schedules of eight blocks, with the constants of the rounds added to them: row `t` has the word `t` of each.
+/// Writes the schedules of eight blocks, with the constants of the rounds added to them: row `t` has the word `t` of
+/// each.
 pub(crate) fn write_eight(rows: &mut [[u32; 8]; 64], blocks: &[u8])
     requires { length blocks.now ≡ 512 }
     ensures { (n : ℕ) → n < 8 → in_lane rows.new n ≡ keyed_words (block_at blocks.now n) }

@@ -1,5 +1,5 @@
-//! SHA-256 (FIPS 180-4), with the message schedules of eight blocks computed at a time, in the lanes of vectors. Eight messages can also be
-//! hashed in step, a lane each.
+//! SHA-256 (FIPS 180-4), with the message schedules of eight blocks computed at a time, in the lanes of vectors. Eight
+//! messages can also be hashed in step, a lane each.
 #![tactic(auto)]
 
 mod blocks;

@@ -1,15 +1,15 @@
 -- What a pass knows of a board, at its turn.
 use Rattle.std.proofs.Common.{◌≡◌, ℕ, ◌==◌, Bool, true, List, ◌++◌, Option, Some, None, refl, sym, ◌∙◌, subst, inl, inr, eq-eqb, eqb-true}
 use Rattle.turn_lock.specs.Turns.{Known}
-use Rattle.turn_lock.specs.Meeting.{Meets}
+use Rattle.turn_lock.specs.PassLaws.{Meets}
 use Rattle.board.specs.declared.entry.BoardEntry.{BoardEntry}
 use Rattle.board.specs.declared.entry.Shape.{Shape}
-use Rattle.board.specs.Shapes.{is_pad, has_line, is_born, lists_of, width_born}
+use Rattle.board.specs.Shapes.{is_pad, has_queue, is_born, lists_of, width_born}
 use Rattle.board.specs.Entries.{entries_of, birth, caller_of}
 use Rattle.board.specs.Legal.{MaySubmit, MayManage, MayFinish, IsOpenAs, IsOpenPad, IsOpenQueue, IsOpen, is_shut, LegalBoard}
-use Rattle.board.specs.Staying.{IsDrained}
+use Rattle.board.specs.PipelineHistory.{IsDrained}
 use Rattle.board.specs.Others.{OthersCome, StaysKnown, OthersAlone, WorkLeavesKnown, WorkLeavesDrained, WorkLeavesOwn, OthersLeaveOpen, OthersLeaveSlips}
-use Rattle.shared_board.specs.Meeting.{HoldsAt}
+use Rattle.shared_board.specs.Knowledge.{HoldsAt}
 
 -- what a board's value stands for
 abbrev pub itself : {A : Type 0} → List (BoardEntry A) → List (BoardEntry A)
@@ -55,7 +55,7 @@ module _ {A O : Type 0} (meaning : A → O) where
 
     open_here : (p : ℕ) → MayManage (entries_of p k.seen) k.number → IsOpen (entries_of p k.seen) → IsOpen (entries_of p h)
     open_here p may (inl o) = inl ((known_here p may).opened is_pad o)
-    open_here p may (inr o) = inr ((known_here p may).opened has_line o)
+    open_here p may (inr o) = inr ((known_here p may).opened has_queue o)
 
     pub holds_here : HoldsAt meaning k h
     holds_here = record {
@@ -64,7 +64,7 @@ module _ {A O : Type 0} (meaning : A → O) where
       drained = λ p may o alone d. back (λ xs. IsDrained (entries_of p xs)) (law.drained k.seen m.others p k.number (law.alone k.seen m.others k.number come) may alone d);
       submits = λ p may. back (λ xs. MaySubmit (entries_of p xs) k.number) (law.submitting k.seen m.others p k.number come may).0;
       pad = λ p may o. back (λ xs. IsOpenPad (entries_of p xs)) ((law.submitting k.seen m.others p k.number come may).1 is_pad o);
-      queue = λ p may o. back (λ xs. IsOpenQueue (entries_of p xs)) ((law.submitting k.seen m.others p k.number come may).1 has_line o);
+      queue = λ p may o. back (λ xs. IsOpenQueue (entries_of p xs)) ((law.submitting k.seen m.others p k.number come may).1 has_queue o);
       slip = λ p n out may. back (λ xs. MayFinish meaning (entries_of p xs) k.number n out) (law.slips k.seen m.others p k.number n out come may);
       unshut = λ first open_. back (λ xs. is_shut xs ≡ is_shut k.seen) ((law.own k.seen m.others k.number (law.alone k.seen m.others k.number come)).1 first) ∙ open_;
     }

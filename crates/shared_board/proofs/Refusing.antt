@@ -4,8 +4,8 @@ use Rattle.std.specs.Prelude.{Result, OnOk, IfErr, MatchResult, MatchBool}
 use Rattle.std.specs.Result.{is_ok}
 use Rattle.turn_lock.specs.Turns.{Known, sees}
 use Rattle.turn_lock.specs.Passes.{Added}
-use Rattle.turn_lock.specs.Meeting.{Meets, AtTurn, Enters, Leaves}
-use Rattle.turn_lock.specs.Going.{one, leaves}
+use Rattle.turn_lock.specs.PassLaws.{Meets, AtTurn, Enters, Leaves}
+use Rattle.turn_lock.specs.TurnLaws.{one, leaves}
 
 -- A call of the pass k, whose number is n, at its turn on h, which the value's method found as `old` and left as y.
 module _ {E : Type 0} (by : E → ℕ) (Kept : List E → Type 0) {T : Type 0} (told : T → List E) (k m l : Known E) (h old : List E) (y : T) (n : ℕ) (own : n ≡ k.number) (from : old ≡ h) (same : m ≡ sees k h) (met : Meets by Kept k h) (kept : Kept (told y)) where

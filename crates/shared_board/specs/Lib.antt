@@ -1,3 +1,3 @@
 pub mod Passes
-pub mod Meeting
+pub mod Knowledge
 pub mod Records

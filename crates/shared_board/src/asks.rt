@@ -13,8 +13,8 @@ use std::alloc::{AllocError, Global};
 use std::sync::{Arc, Wait};
 
 impl<W: Work> SharedBoard<W> {
-    /// What the pipeline accepted up to the pass's turn, in order, whoever asked. It looks at each entry of the history, and records
-    /// nothing.
+    /// What the pipeline accepted up to the pass's turn, in order, whoever asked. It looks at each entry of the
+    /// history, and records nothing.
     pub fn asks<R: Wait>(
         &self,
         rt: &R,

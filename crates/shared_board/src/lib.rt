@@ -9,5 +9,5 @@ mod shared;
 mod wakeups;
 
 pub use laws::known_holds;
-pub use looks::{Drowsy, EndWatch, Look, SpinResult, Tired};
+pub use looks::{Drowsy, EndWait, Look, SpinResult, Tired};
 pub use shared::{BoardPass, SharedBoard};

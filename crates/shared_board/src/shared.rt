@@ -11,14 +11,14 @@ ghost use Rattle.board.specs.Shapes.{is_chain, width_born};
 ghost use Rattle.board.specs.Entries.{entries_of, birth, submissions, front, mask, told, collected, delivered, verdict, is_shared, finish_entry, pass_entry, NoneFor, NonePasses, caller_of};
 ghost use Rattle.board.specs.Allowance.{IsAllowed};
 ghost use Rattle.board.specs.Legal.{Is, IsNoWorker, MaySubmit, MayManage, MayFinish, IsOpenPad, IsOpenQueue, IsOpen, is_shut, LegalBoard};
-ghost use Rattle.board.specs.Staying.{IsDrained};
-ghost use Rattle.turn_lock.specs.Meeting.{Meets, Leaves};
+ghost use Rattle.board.specs.PipelineHistory.{IsDrained};
+ghost use Rattle.turn_lock.specs.PassLaws.{Meets, Leaves};
 ghost use Rattle.shared_board.specs.Passes.{IsPassOn};
-ghost use Rattle.shared_board.specs.Meeting.{HoldsAt};
+ghost use Rattle.shared_board.specs.Knowledge.{HoldsAt};
 ghost use Rattle.shared_board.specs.Records.{AtBoard, Adds, AddsAsk, TakesJob, Collects, Records, RecordsNothing, RecordsUnlessMemory, Makes};
 
 use crate::laws::known_holds;
-use crate::looks::{Drowsy, EndWatch, Look, SpinResult, Tired};
+use crate::looks::{Drowsy, EndWait, Look, SpinResult, Tired};
 use crate::wakeups::Wakeups;
 use board::{BoardCore, BoardEntry, BoardErr, BoardLog, Entered, Slip, Taken, Work};
 use job_wakeups::WorkerWakeup;
@@ -62,8 +62,8 @@ impl<W: Work> SharedBoard<W> {
         turn
     }
 
-    /// Two passes of one. The first keeps its number, and gives numbers above `number` from then on; the second has `number`
-    /// and has seen as much. `number` is at least the pass's `next`, and below 2^32 - 1. No turn is taken.
+    /// Two passes of one. The first keeps its number, and gives numbers above `number` from then on; the second has
+    /// `number` and has seen as much. `number` is at least the pass's `next`, and below 2^32 - 1. No turn is taken.
     pub fn split(&self, pass: BoardPass<W>, number: u32) -> (BoardPass<W>, BoardPass<W>)
         requires lock { IsPassOn self.now pass }
         requires number { ((knows pass).next ≤ number) × (number + 1 < 2 ^ 32) }
@@ -74,8 +74,8 @@ impl<W: Work> SharedBoard<W> {
         self.lock.split(pass, number)
     }
 
-    /// One pass of two, which has seen what both have seen. It has the number of the first, and keeps that of the second as
-    /// ended.
+    /// One pass of two, which has seen what both have seen. It has the number of the first, and keeps that of the
+    /// second as ended.
     pub fn join(&self, a: BoardPass<W>, b: BoardPass<W>) -> BoardPass<W>
         requires { IsPassOn self.now a × IsPassOn self.now b }
         ensures lock { IsPassOn self.now result }
@@ -85,10 +85,10 @@ impl<W: Work> SharedBoard<W> {
         self.lock.join(a, b)
     }
 
-    /// Makes a pad of `lists` reorder lists, 1 to 16, from which the workers 1 to `lists` may take, and answers its number.
-    /// The caller is no worker. Only want of memory refuses. A job wakes at most one worker that sleeps, or none and is left to
-    /// one that stays awake, whichever it is. Beside a worker of a number above `lists` each job of the board wakes all that sleep
-    /// instead.
+    /// Makes a pad of `lists` reorder lists, 1 to 16, from which the workers 1 to `lists` may take, and answers its
+    /// number. The caller is no worker. Only want of memory refuses. A job wakes at most one worker that sleeps, or
+    /// none and is left to one that stays awake, whichever it is. Beside a worker of a number above `lists` each job of
+    /// the board wakes all that sleep instead.
     pub fn born_pad<R: Wait>(
         &self,
         rt: &R,
@@ -110,8 +110,8 @@ impl<W: Work> SharedBoard<W> {
         (turn.give(added), answer)
     }
 
-    /// Makes a queue of which so many requests wait before its backlog begins, at least 1, and answers its number. The caller
-    /// is no worker. Only want of memory refuses.
+    /// Makes a queue of which so many requests wait before its backlog begins, at least 1, and answers its number. The
+    /// caller is no worker. Only want of memory refuses.
     pub fn born_queue<R: Wait>(
         &self,
         rt: &R,
@@ -132,10 +132,10 @@ impl<W: Work> SharedBoard<W> {
         (turn.give(added), answer)
     }
 
-    /// Makes a chain, and answers its number: a queue of which so many requests wait before its backlog begins, at least 1,
-    /// and a pad of `lists` reorder lists, 1 to 16, to which they go on, and from which the workers 1 to `lists` may take.
-    /// The caller is no worker. Only want of memory refuses. Workers are woken for what comes or goes on as for a pad's jobs
-    /// (`born_pad`).
+    /// Makes a chain, and answers its number: a queue of which so many requests wait before its backlog begins, at
+    /// least 1, and a pad of `lists` reorder lists, 1 to 16, to which they go on, and from which the workers 1 to
+    /// `lists` may take. The caller is no worker. Only want of memory refuses. Workers are woken for what comes or goes
+    /// on as for a pad's jobs (`born_pad`).
     pub fn born_chain<R: Wait>(
         &self,
         rt: &R,
@@ -179,11 +179,12 @@ impl<W: Work> SharedBoard<W> {
         (turn.give(added), answer)
     }
 
-    /// From now on the workers whose bits are set may take from the pad, besides its maker and who submits to it: bit i stands
-    /// for worker i + 1. What was submitted before stays, and is completed in order. The caller made the pad, which is neither
-    /// closed nor shared, and no bit stands at or above the number of lists that it was made with. Only want of memory refuses.
-    /// While the mask leaves a worker out, each job of the pad wakes all workers that sleep. A job of another pad wakes one, or none, as
-    /// before, while at most 16 pads of the board are masked so at once: from the 17th on each job of the board wakes all, for good.
+    /// From now on the workers whose bits are set may take from the pad, besides its maker and who submits to it: bit i
+    /// stands for worker i + 1. What was submitted before stays, and is completed in order. The caller made the pad,
+    /// which is neither closed nor shared, and no bit stands at or above the number of lists that it was made with.
+    /// Only want of memory refuses. While the mask leaves a worker out, each job of the pad wakes all workers that
+    /// sleep. A job of another pad wakes one, or none, as before, while at most 16 pads of the board are masked so at
+    /// once: from the 17th on each job of the board wakes all, for good.
     pub fn mask<R: Wait>(
         &self,
         rt: &R,
@@ -211,9 +212,10 @@ impl<W: Work> SharedBoard<W> {
         (pass, answer)
     }
 
-    /// Takes a job into a pad that isn't closed, and answers its number. The caller made the pad, or has seen that it is
-    /// shared, and is no worker. `NoWorker` where the pad's mask is empty, and otherwise `TooBig` where the caller's allowance
-    /// has no room for the job; want of memory comes after these. A refusal drops the job. (`Put`, then `Count` and `Leave` or `Notify`.)
+    /// Takes a job into a pad that isn't closed, and answers its number. The caller made the pad, or has seen that it
+    /// is shared, and is no worker. `NoWorker` where the pad's mask is empty, and otherwise `TooBig` where the caller's
+    /// allowance has no room for the job; want of memory comes after these. A refusal drops the job. (`Put`, then
+    /// `Count` and `Leave` or `Notify`.)
     pub fn submit<R: Wait>(
         &self,
         rt: &R,
@@ -244,9 +246,10 @@ impl<W: Work> SharedBoard<W> {
         (pass, answer)
     }
 
-    /// Offers a job to a queue or chain that isn't closed, and answers its verdict. The caller made it, or has seen that it is
-    /// shared, and is no worker. `TooBig` where the caller's allowance has no room for the job; want of memory comes after
-    /// that, and both before the verdict. What isn't accepted is dropped. (`Put`, then `Count` and `Leave` or `Notify`.)
+    /// Offers a job to a queue or chain that isn't closed, and answers its verdict. The caller made it, or has seen
+    /// that it is shared, and is no worker. `TooBig` where the caller's allowance has no room for the job; want of
+    /// memory comes after that, and both before the verdict. What isn't accepted is dropped. (`Put`, then `Count` and
+    /// `Leave` or `Notify`.)
     pub fn enqueue<R: Wait>(
         &self,
         rt: &R,
@@ -276,11 +279,12 @@ impl<W: Work> SharedBoard<W> {
         (pass, answer)
     }
 
-    /// Hands out a job that this caller may take: of a pad, or of the pad within a chain, the first that nobody has taken,
-    /// where the caller made the pipeline, submitted to it, or is a worker in its mask; of a queue the first that waits, where
-    /// it is neither held nor busy. `None` exactly where there is none. No memory is taken. Once a queue or a chain was made, a
-    /// take that found a job wakes a worker that sleeps, unless one stays awake, since another may be ready. (`Help`, or
-    /// `Look_and_take`, then `Leave_next` or `Notify_next`; `Look_and_find_none`, then `Forget` or `Keep`.)
+    /// Hands out a job that this caller may take: of a pad, or of the pad within a chain, the first that nobody has
+    /// taken, where the caller made the pipeline, submitted to it, or is a worker in its mask; of a queue the first
+    /// that waits, where it is neither held nor busy. `None` exactly where there is none. No memory is taken. Once a
+    /// queue or a chain was made, a take that found a job wakes a worker that sleeps, unless one stays awake, since
+    /// another may be ready. (`Help`, or `Look_and_take`, then `Leave_next` or `Notify_next`; `Look_and_find_none`,
+    /// then `Forget` or `Keep`.)
     pub fn take<R: Wait>(&self, rt: &R, pass: BoardPass<W>) -> (BoardPass<W>, Option<Taken<W>>)
         requires { IsPassOn self.now pass }
         ensures lock { IsPassOn self.now result.0 }
@@ -303,11 +307,11 @@ impl<W: Work> SharedBoard<W> {
         (pass, answer)
     }
 
-    /// Hands out a job that this caller may take, as `take` does, and where there is none passes a request of a chain on at the same turn,
-    /// as `pass_on` does. The answer says whether it did the latter. It spends a look that is due: where it finds something, a wait that was
-    /// announced is over, and else its caller may sleep. No memory is taken. It wakes as these two do. (`Look_and_take`, or
-    /// `Look_and_find_none`, then `Forget` or `Keep`. After a wait was announced `Last_take`, then `Drop_key`, or `Last_find_none`, then
-    /// `Forget_last` or `Keep_last`.)
+    /// Hands out a job that this caller may take, as `take` does, and where there is none passes a request of a chain
+    /// on at the same turn, as `pass_on` does. The answer says whether it did the latter. It spends a look that is due:
+    /// where it finds something, a wait that was announced is over, and else its caller may sleep. No memory is taken.
+    /// It wakes as these two do. (`Look_and_take`, or `Look_and_find_none`, then `Forget` or `Keep`. After a wait was
+    /// announced `Last_take`, then `Drop_key`, or `Last_find_none`, then `Forget_last` or `Keep_last`.)
     pub fn take_or_pass_on<'a, R: Wait>(
         &self,
         rt: &R,
@@ -345,9 +349,10 @@ impl<W: Work> SharedBoard<W> {
         }
     }
 
-    /// Records the outcome of a job that this caller took and hasn't finished: what the job's ask means. No memory is taken. It
-    /// wakes who waits for an end of the pipeline (`prepare_wait_for_end`), and, once a queue or a chain was made, a worker that sleeps, unless
-    /// one stays awake, since a queue's next request may be ready then. (`End_and_look` or `Ready`, then `Leave_next` or `Notify_next`.)
+    /// Records the outcome of a job that this caller took and hasn't finished: what the job's ask means. No memory is
+    /// taken. It wakes who waits for an end of the pipeline (`prepare_wait_for_end`), and, once a queue or a chain was
+    /// made, a worker that sleeps, unless one stays awake, since a queue's next request may be ready then.
+    /// (`End_and_look` or `Ready`, then `Leave_next` or `Notify_next`.)
     pub fn finish<R: Wait>(
         &self,
         rt: &R,
@@ -370,10 +375,11 @@ impl<W: Work> SharedBoard<W> {
         pass
     }
 
-    /// Records the outcome of a job that this caller took and hasn't finished, as `finish` does, and at the same turn hands out the
-    /// next, as `take` does. No memory is taken. It wakes as `finish` does, but no worker where it hands out none, since then no
-    /// queue has a request that is ready. (`End_and_take`, then `Notice_taken` or `Run_on`; `End_and_find_none`, then `Forget` or `Keep`;
-    /// of a caller that is no worker `Help_on`, then `Notice_helped` or `Stop_helping`.)
+    /// Records the outcome of a job that this caller took and hasn't finished, as `finish` does, and at the same turn
+    /// hands out the next, as `take` does. No memory is taken. It wakes as `finish` does, but no worker where it hands
+    /// out none, since then no queue has a request that is ready. (`End_and_take`, then `Notice_taken` or `Run_on`;
+    /// `End_and_find_none`, then `Forget` or `Keep`; of a caller that is no worker `Help_on`, then `Notice_helped` or
+    /// `Stop_helping`.)
     pub fn finish_and_take<R: Wait>(
         &self,
         rt: &R,
@@ -410,8 +416,8 @@ impl<W: Work> SharedBoard<W> {
         (pass, next)
     }
 
-    /// The first request of a chain's line goes on to its pad, where the chain isn't held. False exactly where there is no such
-    /// chain. No memory is taken. (`Put`, then `Count` and `Leave` or `Notify`.)
+    /// The first request of a chain's line goes on to its pad, where the chain isn't held. False exactly where there is
+    /// no such chain. No memory is taken. (`Put`, then `Count` and `Leave` or `Notify`.)
     pub fn pass_on<R: Wait>(&self, rt: &R, pass: BoardPass<W>) -> (BoardPass<W>, bool)
         requires { IsPassOn self.now pass }
         ensures lock { IsPassOn self.now result.0 }
@@ -427,8 +433,8 @@ impl<W: Work> SharedBoard<W> {
         (pass, passed)
     }
 
-    /// From now on no request of the queue is begun, and none of the chain goes on to its pad. The caller made it, and it isn't
-    /// closed. Only want of memory refuses.
+    /// From now on no request of the queue is begun, and none of the chain goes on to its pad. The caller made it, and
+    /// it isn't closed. Only want of memory refuses.
     pub fn hold<R: Wait>(
         &self,
         rt: &R,
@@ -448,8 +454,8 @@ impl<W: Work> SharedBoard<W> {
         (turn.give(added), answer)
     }
 
-    /// The queue's requests are run again, or the chain's go on. The caller made it, and it isn't closed. Only want of memory
-    /// refuses. (`Put`, then `Count` and `Leave` or `Notify`.)
+    /// The queue's requests are run again, or the chain's go on. The caller made it, and it isn't closed. Only want of
+    /// memory refuses. (`Put`, then `Count` and `Leave` or `Notify`.)
     pub fn go<R: Wait>(
         &self,
         rt: &R,
@@ -473,8 +479,8 @@ impl<W: Work> SharedBoard<W> {
         (pass, answer)
     }
 
-    /// Hands out what a pipeline has told and no call handed out before, in the order in which it was told. The caller made the
-    /// pipeline, which isn't closed. Only want of memory refuses, and hands out nothing.
+    /// Hands out what a pipeline has told and no call handed out before, in the order in which it was told. The caller
+    /// made the pipeline, which isn't closed. Only want of memory refuses, and hands out nothing.
     pub fn poll<R: Wait>(
         &self,
         rt: &R,
@@ -498,9 +504,9 @@ impl<W: Work> SharedBoard<W> {
         (turn.give(added), answer)
     }
 
-    /// Where all requests of the pipeline are finished, answers true and hands out what no call handed out before, in the
-    /// order in which it was told. Otherwise it answers false and nothing happens. The caller made the pipeline, which isn't
-    /// closed. Only want of memory refuses, and hands out nothing.
+    /// Where all requests of the pipeline are finished, answers true and hands out what no call handed out before, in
+    /// the order in which it was told. Otherwise it answers false and nothing happens. The caller made the pipeline,
+    /// which isn't closed. Only want of memory refuses, and hands out nothing.
     pub fn try_drain<R: Wait>(
         &self,
         rt: &R,
@@ -526,8 +532,8 @@ impl<W: Work> SharedBoard<W> {
         (turn.give(added), answer)
     }
 
-    /// Closes a pipeline that the caller made and shared with nobody, of which all is finished and handed out. No memory is
-    /// taken.
+    /// Closes a pipeline that the caller made and shared with nobody, of which all is finished and handed out. No
+    /// memory is taken.
     pub fn close<R: Wait>(&self, rt: &R, pass: BoardPass<W>, pipe: u64) -> BoardPass<W>
         requires lock { IsPassOn self.now pass }
         requires caller { MayManage (entries_of pipe (knows pass).seen) (knows pass).number }
@@ -573,8 +579,8 @@ impl<W: Work> SharedBoard<W> {
         (turn.give(false), answer)
     }
 
-    /// Whether the board is shut, of a caller whose look is due: where it is, no job is left to it, and the look goes. Otherwise that is
-    /// still due.
+    /// Whether the board is shut, of a caller whose look is due: where it is, no job is left to it, and the look goes.
+    /// Otherwise that is still due.
     pub fn look_at_end<'a, R: Wait>(
         &self,
         rt: &R,
@@ -594,33 +600,34 @@ impl<W: Work> SharedBoard<W> {
         (pass, Some(look))
     }
 
-    /// Announces a wait for a job to be taken, or for the end of the board, of a worker that stays awake no longer. A last look is due
-    /// before it sleeps. (`Announce` and `Read_epoch`.)
+    /// Announces a wait for a job to be taken, or for the end of the board, of a worker that stays awake no longer. A
+    /// last look is due before it sleeps. (`Announce` and `Read_epoch`.)
     pub fn prepare_wait_for_job(&self, tired: Tired) -> Look<'_> {
         Look::last(self.wakeups.jobs().prepare_wait_for_job(tired.inner()))
     }
 
-    /// Announces a wait for a job of the pipeline to be finished, a request to be passed on, or the end of the board. Who announced it
-    /// drains (`try_drain`) and looks before it sleeps. It may be over where a job of another pipeline is finished, whose number differs
-    /// by a multiple of 16.
-    pub fn prepare_wait_for_end(&self, pipe: u64) -> EndWatch<'_> {
-        EndWatch::on(self.wakeups.prepare_wait_for_end(pipe))
+    /// Announces a wait for a job of the pipeline to be finished, a request to be passed on, or the end of the board.
+    /// Who announced it drains (`try_drain`) and looks before it sleeps. It may be over where a job of another pipeline
+    /// is finished, whose number differs by a multiple of 16.
+    pub fn prepare_wait_for_end(&self, pipe: u64) -> EndWait<'_> {
+        EndWait::on(self.wakeups.prepare_wait_for_end(pipe))
     }
 
-    /// Counts as a job that came, since something else than a job may be there for a worker: wakes one that sleeps, unless enough
-    /// stay awake. (`Call`, then `Leave` or `Notify`.)
+    /// Counts as a job that came, since something else than a job may be there for a worker: wakes one that sleeps,
+    /// unless enough stay awake. (`Call`, then `Leave` or `Notify`.)
     pub fn call_worker(&self) {
         self.wakeups.jobs().notify_job();
     }
 
-    /// The wake-up of the board's workers, for another who has something for them to find. The error is that memory was refused.
+    /// The wake-up of the board's workers, for another who has something for them to find. The error is that memory was
+    /// refused.
     pub fn worker_wakeup(&self) -> Result<WorkerWakeup, AllocError> {
         self.wakeups.worker_wakeup()
     }
 
-    /// Whether a worker that did a job may find another: a hint that takes no turn. It may have noticed a job that came, for which
-    /// nobody else then stays awake or is woken: so a look is due. Without one the worker stays awake for a while (`spin_for_job`).
-    /// (`Notice_between` or `Look_anyway`, and `Notice_none`.)
+    /// Whether a worker that did a job may find another: a hint that takes no turn. It may have noticed a job that
+    /// came, for which nobody else then stays awake or is woken: so a look is due. Without one the worker stays awake
+    /// for a while (`spin_for_job`). (`Notice_between` or `Look_anyway`, and `Notice_none`.)
     pub fn may_have_job(&self) -> Option<Look<'_>> {
         if self.wakeups.jobs().may_have_job() {
             return Some(Look::new());
@@ -628,9 +635,9 @@ impl<W: Work> SharedBoard<W> {
         None
     }
 
-    /// Stays awake for a while for a job to come, unless each job wakes all: a hint that takes no turn. Jobs are left to who stays awake,
-    /// and wake nobody else. So a look is due afterwards: at once, where it noticed a job, and else once it has announced a wait. (`Spin`,
-    /// then `Notice_while_awake`, `Rouse` and `Read_unnoticed`, or `Give_up`.)
+    /// Stays awake for a while for a job to come, unless each job wakes all: a hint that takes no turn. Jobs are left
+    /// to who stays awake, and wake nobody else. So a look is due afterwards: at once, where it noticed a job, and else
+    /// once it has announced a wait. (`Spin`, then `Notice_while_awake`, `Rouse` and `Read_unnoticed`, or `Give_up`.)
     pub fn spin_for_job(&self) -> SpinResult<'_> {
         match self.wakeups.jobs().spin_for_job() {
             job_wakeups::SpinResult::JobCame => SpinResult::JobCame(Look::new()),
@@ -661,8 +668,8 @@ impl<W: Work> SharedBoard<W> {
         }
     }
 
-    /// The history, at the board's end: it begins with all that the pass has seen, and has of the pass's number, and of each
-    /// that it keeps as ended, just the entries made under it. No memory is taken.
+    /// The history, at the board's end: it begins with all that the pass has seen, and has of the pass's number, and of
+    /// each that it keeps as ended, just the entries made under it. No memory is taken.
     pub fn finish_all<R: Wait>(self, rt: &R, pass: BoardPass<W>) -> BoardLog<W::Ask>
         requires { IsPassOn self pass }
         ensures shows { Shows caller_of (knows pass) result }

@@ -15,14 +15,14 @@ use Rattle.templates.specs.Nesting.{is_nested_well}
 use Rattle.turn_lock.specs.Turns.{Known}
 use Rattle.shared_registry.specs.Passes.{IsSound}
 use Rattle.shared_registry.proofs.Going.{Meets}
-use Rattle.turn_lock.specs.Meeting.{Enters, Leaves}
+use Rattle.turn_lock.specs.PassLaws.{Enters, Leaves}
 use Rattle.shared_registry.specs.Faithful.{IsFaithful}
 use Rattle.shared_registry.specs.Own.{MayLook}
-use Rattle.shared_registry.specs.Building.{Works, Looks, HasText}
+use Rattle.shared_registry.specs.Builds.{Works, Looks, HasText}
 use Rattle.shared_registry.specs.Within.{MayResolve}
 use Rattle.shared_registry.proofs.Working.{looks_now, works_none}
 use Rattle.shared_registry.proofs.Going.{goes_after, goes_nothing}
-use Rattle.alg_registry.specs.Naming.{IsNamed, LooksName}
+use Rattle.alg_registry.specs.NamedAnswers.{IsNamed, LooksName}
 use Rattle.shared_registry.specs.Learned.{IsLearned}
 
 pub may_look : (k : Known RegEntry) (t : Tree) (plain : Bool) → IsLearned t → is_nested_well t ≡ true → MayResolve k (spelling t) plain → MayLook k (spelling t) plain

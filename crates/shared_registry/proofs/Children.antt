@@ -19,7 +19,7 @@ use Rattle.templates.specs.declared.build_errors.BuildErr.TheVariants.{Fault, Me
 use Rattle.turn_lock.specs.Turns.{Known}
 use Rattle.shared_registry.specs.Passes.{IsSound}
 use Rattle.shared_registry.specs.Own.{open_of, IsOpen, own_looks, IsOwn, next_asked, handed, handed_by, handed_over}
-use Rattle.shared_registry.specs.Building.{Looks, Comes, Resolves}
+use Rattle.shared_registry.specs.Builds.{Looks, Comes, Resolves}
 use Rattle.shared_registry.specs.Within.{Within, Begins, Idles, ChildrenCome, Builds}
 use Rattle.shared_registry.specs.Learned.{RegistryLaws, IsLearned}
 use Rattle.shared_registry.proofs.Asking.{FoundExists, all_exist, Exist, outcomes_there}

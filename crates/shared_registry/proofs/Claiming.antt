@@ -28,15 +28,15 @@ use Rattle.alg_registry.proofs.Stack.{claimed-within, claimed-there, ended-push,
 use Rattle.alg_registry.proofs.OwnCalls.{last_any}
 use Rattle.templates.specs.declared.build_errors.BuildErr.{BuildErr}
 use Rattle.templates.specs.declared.build_errors.BuildErr.TheVariants.{Fault, Memory}
-use Rattle.templates.specs.Resolving.{result_of}
+use Rattle.templates.specs.Resolution.{result_of}
 use Rattle.turn_lock.specs.Turns.{Known, of}
 use Rattle.shared_registry.specs.Passes.{IsSound, EntersIf}
 use Rattle.shared_registry.proofs.Going.{Meets, Goes}
-use Rattle.turn_lock.specs.Meeting.{Enters, Leaves}
-use Rattle.turn_lock.specs.Meeting.{Meets as Met}
+use Rattle.turn_lock.specs.PassLaws.{Enters, Leaves}
+use Rattle.turn_lock.specs.PassLaws.{Meets as Met}
 use Rattle.shared_registry.specs.Faithful.{IsFaithful}
 use Rattle.shared_registry.specs.Own.{open_of, IsOpen, own_looks, IsOwn, MayHand}
-use Rattle.shared_registry.specs.Building.{Works, Ends}
+use Rattle.shared_registry.specs.Builds.{Works, Ends}
 use Rattle.shared_registry.specs.Within.{Within, Closes, BeginsText, Builds, EndsAs, ended_result, given_result}
 use Rattle.shared_registry.specs.Learned.{RegistryLaws}
 use Rattle.shared_registry.proofs.Asking.{open_at}

@@ -9,12 +9,12 @@ use Rattle.alg_registry.specs.declared.entry.RegEntry.{RegEntry}
 use Rattle.alg_registry.specs.declared.entry.RegEntry.TheVariants.{Look}
 use Rattle.alg_registry.specs.Rows.{registered}
 use Rattle.alg_registry.specs.Made.{outcome}
-use Rattle.templates.specs.Looking.{found_in, found_as, entry_found}
-use Rattle.templates.specs.Looking.{Found as WasFound}
+use Rattle.templates.specs.LookResults.{found_in, found_as, entry_found}
+use Rattle.templates.specs.LookResults.{Found as WasFound}
 use Rattle.std.specs.List.{AllByRecursion}
 use Rattle.turn_lock.specs.Turns.{Known, Has, Each}
 use Rattle.shared_registry.proofs.Going.{Goes}
-use Rattle.shared_registry.specs.Building.{Looks, IsLook, WasAnswered}
+use Rattle.shared_registry.specs.Builds.{Looks, IsLook, WasAnswered}
 use Rattle.shared_registry.specs.Learned.{RegistryLaws}
 
 has_more : (P : RegEntry → Type 0) (xs ys : List RegEntry) → Has P xs → Has P (xs ++ ys)

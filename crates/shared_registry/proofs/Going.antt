@@ -3,9 +3,9 @@ use Rattle.std.proofs.Common.{◌≡◌, List, [], ◌∷◌, ◌++◌}
 use Rattle.alg_registry.specs.declared.entry.RegEntry.{RegEntry}
 use Rattle.alg_registry.specs.Rows.{caller_of}
 use Rattle.turn_lock.specs.Turns.{Known}
-use Rattle.turn_lock.specs.Meeting.{AtTurn, GoesOn, Enters, Leaves}
-use Rattle.turn_lock.specs.Meeting.{Meets as Met}
-use Rattle.turn_lock.specs.Going.{goes_entered, goes_left, goes_then, stays}
+use Rattle.turn_lock.specs.PassLaws.{AtTurn, GoesOn, Enters, Leaves}
+use Rattle.turn_lock.specs.PassLaws.{Meets as Met}
+use Rattle.turn_lock.specs.TurnLaws.{goes_entered, goes_left, goes_then, stays}
 use Rattle.shared_registry.specs.Faithful.{IsFaithful}
 
 abbrev pub Goes : Known RegEntry → Known RegEntry → List RegEntry → Type 0

@@ -13,7 +13,7 @@ use Rattle.alg_registry.specs.Made.{with_spec}
 use Rattle.alg_registry.proofs.Existing.{registered_grow}
 use Rattle.turn_lock.specs.Turns.{Known}
 use Rattle.shared_registry.proofs.Going.{Meets, Goes}
-use Rattle.turn_lock.specs.Meeting.{Leaves}
+use Rattle.turn_lock.specs.PassLaws.{Leaves}
 use Rattle.shared_registry.specs.Within.{Idles}
 use Rattle.shared_registry.proofs.Asking.{Exist, specs_more}
 

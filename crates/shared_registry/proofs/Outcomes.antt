@@ -26,13 +26,13 @@ use Rattle.alg_names.specs.Name.{Tree, depth, width}
 use Rattle.alg_names.specs.Spelled.{tree_of}
 use Rattle.templates.specs.Nesting.{is_nested_well}
 use Rattle.templates.specs.Table.{table, is_allowed}
-use Rattle.templates.specs.Looking.{Entry, found_in, entry_found, found_as}
+use Rattle.templates.specs.LookResults.{Entry, found_in, entry_found, found_as}
 use Rattle.templates.specs.declared.build_errors.BuildErr.{BuildErr}
 use Rattle.templates.specs.declared.build_errors.BuildErr.TheVariants as build
 use Rattle.turn_lock.specs.Turns.{Known, Has, of}
 use Rattle.shared_registry.specs.Passes.{IsSound}
 use Rattle.shared_registry.proofs.Going.{Goes}
-use Rattle.shared_registry.specs.Building.{Works, Looks, Comes, Resolves, Ends, Resolved, Settled, IsLook, WasAnswered, HasText, BuiltOne}
+use Rattle.shared_registry.specs.Builds.{Works, Looks, Comes, Resolves, Ends, Resolved, Settled, IsLook, WasAnswered, HasText, BuiltOne}
 use Rattle.shared_registry.specs.Within.{Closes, BeginsText, HasCome}
 use Rattle.shared_registry.proofs.Asking.{FoundExists, found_there, outcome_there}
 use Rattle.shared_registry.proofs.Answering.{answered_text}

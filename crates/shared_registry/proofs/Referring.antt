@@ -8,7 +8,7 @@ use Rattle.alg_registry.specs.Rows.{is_listed}
 use Rattle.alg_registry.specs.Calls.{UnlessMemory, OnMemory, get_result}
 use Rattle.alg_registry.specs.Legal.{HasReference}
 use Rattle.turn_lock.specs.Turns.{Known}
-use Rattle.turn_lock.specs.Meeting.{Enters, Leaves}
+use Rattle.turn_lock.specs.PassLaws.{Enters, Leaves}
 use Rattle.shared_registry.specs.Faithful.{IsFaithful}
 use Rattle.shared_registry.proofs.Going.{Meets}
 

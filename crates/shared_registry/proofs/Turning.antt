@@ -17,9 +17,9 @@ use Rattle.alg_registry.specs.Made.{IsMade}
 use Rattle.templates.specs.Table.{table}
 use Rattle.turn_lock.specs.Turns.{Known, sees}
 use Rattle.turn_lock.specs.Passes.{Added}
-use Rattle.turn_lock.specs.Meeting.{Enters, Leaves}
-use Rattle.turn_lock.specs.Meeting.{Meets as Met}
-use Rattle.turn_lock.specs.Going.{enters, leaves, own_entered, own_left}
+use Rattle.turn_lock.specs.PassLaws.{Enters, Leaves}
+use Rattle.turn_lock.specs.PassLaws.{Meets as Met}
+use Rattle.turn_lock.specs.TurnLaws.{enters, leaves, own_entered, own_left}
 use Rattle.shared_registry.specs.Faithful.{IsFaithful}
 use Rattle.shared_registry.specs.Passes.{IsSound, EntersIf, recorded, given}
 

@@ -15,9 +15,9 @@ use Rattle.alg_registry.specs.Made.{outcome_of}
 use Rattle.turn_lock.specs.Turns.{Known}
 use Rattle.shared_registry.specs.Passes.{IsSound, EntersIf}
 use Rattle.shared_registry.proofs.Going.{Meets, Goes}
-use Rattle.turn_lock.specs.Meeting.{Enters, Leaves}
+use Rattle.turn_lock.specs.PassLaws.{Enters, Leaves}
 use Rattle.shared_registry.specs.Faithful.{IsFaithful}
-use Rattle.shared_registry.specs.Building.{Works, Ends}
+use Rattle.shared_registry.specs.Builds.{Works, Ends}
 use Rattle.shared_registry.specs.Within.{Idles, ended_result}
 use Rattle.shared_registry.specs.Learned.{RegistryLaws}
 use Rattle.shared_registry.proofs.Working.{works_none, works_waited, works_on}

@@ -18,7 +18,7 @@ use Rattle.shared_registry.specs.Passes.{IsSound}
 use Rattle.shared_registry.proofs.Going.{Goes, goes_on, goes_still}
 use Rattle.shared_registry.specs.Own.{open_of, own_looks, IsOwn}
 use Rattle.templates.specs.declared.build_errors.BuildErr.{BuildErr}
-use Rattle.shared_registry.specs.Building.{is_building, Works, Looks, Comes, Resolves}
+use Rattle.shared_registry.specs.Builds.{is_building, Works, Looks, Comes, Resolves}
 use Rattle.shared_registry.specs.Within.{Within}
 
 pub all_both : (xs ys : List RegEntry) → list_all is_building xs ≡ true → list_all is_building ys ≡ true → list_all is_building (xs ++ ys) ≡ true

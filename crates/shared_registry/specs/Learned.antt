@@ -1,9 +1,9 @@
 -- What the laws of the registry and of the table say, as far as building needs it.
 use Rattle.alg_registry.specs.OwnCalls.{AllStays, BuildingIsOwn, OpenIsClaimed, LooksAreOwn, ReferencesAreOwn}
-use Rattle.alg_registry.specs.Naming.{LooksName, EndsName}
+use Rattle.alg_registry.specs.NamedAnswers.{LooksName, EndsName}
 use Rattle.alg_names.specs.Name.{Tree}
 use Rattle.templates.specs.Names.{IsKnown}
-use Rattle.templates.specs.Asking.{IsTableAt, AsksForLess}
+use Rattle.templates.specs.Requirements.{IsTableAt, AsksForLess}
 
 -- of every history
 pub record RegistryLaws : Type 0 where

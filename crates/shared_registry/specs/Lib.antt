@@ -1,7 +1,7 @@
 pub mod Faithful
 pub mod Passes
 pub mod Own
-pub mod Building
+pub mod Builds
 pub mod Within
 pub mod Laws
 pub mod Learned

@@ -50,7 +50,8 @@ MayHand k larval (Err (Failed errno)) = handed k larval ≡ Some (Err errno)
 MayHand k larval (Err NoMemory) = ⊤
 MayHand k larval (Err _) = ⊥
 
--- it may look for the text: for any, where it is no worker; for plain entries alone, where the text is the next child of what it claimed last
+-- it may look for the text: for any, where it is no worker; for plain entries alone, where the text is the next child
+-- of what it claimed last
 abbrev pub MayLook : Known RegEntry → List ℕ → Bool → Type 0
 MayLook k text false = IsTrue (table.is_name text) × IsFalse (is_worker k.number)
 MayLook k text true = IsTrue (table.is_name text) × (next_asked k ≡ Some text)

@@ -7,7 +7,7 @@ use Rattle.alg_registry.specs.Rows.{caller_of}
 use Rattle.turn_lock.specs.declared.lock.Pass.{Pass}
 use Rattle.turn_lock.specs.Turns.{Known}
 use Rattle.turn_lock.specs.Passes.{IsPassOf}
-use Rattle.turn_lock.specs.Meeting.{Enters, Leaves, IsOwn}
+use Rattle.turn_lock.specs.PassLaws.{Enters, Leaves, IsOwn}
 use Rattle.shared_registry.specs.declared.registry_lock.SharedRegistry.{SharedRegistry}
 use Rattle.shared_registry.specs.Faithful.{IsFaithful}
 

@@ -1,5 +1,5 @@
--- What a call does to the registry's history at its turn. k is what the pass knew before, l what it knows then, and h the history that it
--- meets.
+-- What a call does to the registry's history at its turn. k is what the pass knew before, l what it knows then, and h
+-- the history that it meets.
 use Rattle.std.specs.Prelude.{◌≡◌, List, Result, IfOk, IfErr}
 use Rattle.alg_registry.specs.declared.entry.RegEntry.{RegEntry}
 use Rattle.alg_registry.specs.declared.entry.RegErr.{RegErr}
@@ -7,7 +7,7 @@ use Rattle.alg_registry.specs.declared.entry.RegErr.TheVariants.{Memory}
 use Rattle.alg_registry.specs.Calls.{UnlessMemory, OnMemory}
 use Rattle.alg_registry.specs.Rows.{caller_of}
 use Rattle.turn_lock.specs.Turns.{Known}
-use Rattle.turn_lock.specs.Meeting.{AtTurn, Enters, Leaves}
+use Rattle.turn_lock.specs.PassLaws.{AtTurn, Enters, Leaves}
 use Rattle.shared_registry.specs.Faithful.{IsFaithful}
 
 -- this holds of the history that the pass meets

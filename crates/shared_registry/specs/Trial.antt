@@ -7,8 +7,8 @@ use Rattle.alg_registry.specs.declared.entry.RegEntry.{RegEntry}
 use Rattle.alg_registry.specs.declared.entry.RegEntry.TheVariants.{Look, Claim, End, Waited}
 use Rattle.templates.specs.Trial.{cbc_spec}
 
--- Caller 0 looks for `cbc(aes)` by two texts, and for a name that has no instance. Worker 1 builds the first and the last,
--- caller 0 the second, which joins the first.
+-- Caller 0 looks for `cbc(aes)` by two texts, and for a name that has no instance. Worker 1 builds the first and the
+-- last, caller 0 the second, which joins the first.
 abbrev pub side_by_side : List RegEntry
 side_by_side =
     Look 0 (codes "cbc(aes)") false (Began 0)

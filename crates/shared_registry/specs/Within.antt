@@ -13,16 +13,17 @@ use Rattle.alg_registry.specs.Made.{last_of, outcomes}
 use Rattle.alg_names.specs.Name.{Tree, spelling}
 use Rattle.templates.specs.declared.build_errors.BuildErr.{BuildErr}
 use Rattle.templates.specs.declared.build_errors.BuildErr.TheVariants.{Fault, Memory}
-use Rattle.templates.specs.Resolving.{result_of}
+use Rattle.templates.specs.Resolution.{result_of}
 use Rattle.turn_lock.specs.Turns.{Known}
-use Rattle.turn_lock.specs.Meeting.{AtTurn, GoesOn, Enters}
+use Rattle.turn_lock.specs.PassLaws.{AtTurn, GoesOn, Enters}
 use Rattle.alg_registry.specs.Rows.{caller_of}
 use Rattle.shared_registry.specs.Faithful.{IsFaithful}
 use Rattle.shared_registry.specs.Passes.{IsSound}
 use Rattle.shared_registry.specs.Own.{open_of, own_looks, IsOwn, next_asked, handed}
-use Rattle.shared_registry.specs.Building.{is_building}
+use Rattle.shared_registry.specs.Builds.{is_building}
 
--- a look for the name may be made: for any, where the caller is no worker; for plain entries alone, where it is the next child
+-- a look for the name may be made: for any, where the caller is no worker; for plain entries alone, where it is the
+-- next child
 abbrev pub MayResolve : Known RegEntry → List ℕ → Bool → Type 0
 MayResolve k text false = IsFalse (is_worker k.number)
 MayResolve k text true = next_asked k ≡ Some text

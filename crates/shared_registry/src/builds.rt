@@ -13,7 +13,7 @@ ghost use Rattle.turn_lock.specs.Passes.{knows};
 ghost use Rattle.shared_registry.specs.Passes.{IsSound, IsPassOn};
 ghost use Rattle.shared_registry.specs.Learned.{IsLearned, RegistryLaws};
 ghost use Rattle.shared_registry.specs.Own.{IsOpen, MayLook};
-ghost use Rattle.shared_registry.specs.Building.{Works, Looks, Comes, Resolves, Ends, Resolved, Settled, WasAnswered, HasText, BuiltOne};
+ghost use Rattle.shared_registry.specs.Builds.{Works, Looks, Comes, Resolves, Ends, Resolved, Settled, WasAnswered, HasText, BuiltOne};
 ghost use Rattle.shared_registry.specs.Ready.{IsSoundOn, CanBuild};
 ghost use Rattle.shared_registry.specs.Within.{MayResolve, Idles, Within, Begins, ChildrenCome, Builds, EndsAs, ended_result, given_result, HasCome, Closes, BeginsText};
 
@@ -374,12 +374,12 @@ fn resolve_within<R: Wait>(
     }
 }
 
-/// Looks for the name, and builds it where a larval of it is pending that nobody has claimed, children first from left to
-/// right; where another caller builds it, waits for its end.
+/// Looks for the name, and builds it where a larval of it is pending that nobody has claimed, children first from left
+/// to right; where another caller builds it, waits for its end.
 ///
-/// `nesting` takes the name. Without `plain` the caller is no worker; with it the name is the next child of what the caller claimed
-/// last. `Fault` is what the look comes to where it comes to no entry. However it ends, no larval that this call claimed is
-/// left unended.
+/// `nesting` takes the name. Without `plain` the caller is no worker; with it the name is the next child of what the
+/// caller claimed last. `Fault` is what the look comes to where it comes to no entry. However it ends, no larval that
+/// this call claimed is left unended.
 pub fn resolve<R: Wait>(
     rt: &R,
     alloc: Global,
@@ -399,7 +399,8 @@ pub fn resolve<R: Wait>(
     resolve_within(rt, alloc, registry, pass, name, plain)
 }
 
-/// What `resolve` does after its look, with its errors, for a look of the name that this pass made. `nesting` takes the name.
+/// What `resolve` does after its look, with its errors, for a look of the name that this pass made. `nesting` takes the
+/// name.
 pub fn settle<R: Wait>(
     rt: &R,
     alloc: Global,

@@ -16,8 +16,8 @@ use std::alloc::{AllocError, Global};
 use std::marker::Model;
 use turn_lock::Told;
 
-/// The registry behind the lock. Contracts see it as its history, which is legal, and in which every instance was built by
-/// its template.
+/// The registry behind the lock. Contracts see it as its history, which is legal, and in which every instance was built
+/// by its template.
 #[derive(Drop)]
 pub struct FaithfulRegistry {
     registry: Registry,

@@ -9,7 +9,7 @@ ghost use Rattle.alg_registry.specs.Legal.{is_worker, HasReference, ended_as};
 ghost use Rattle.alg_registry.specs.Calls.{UnlessNoMemory, OnNoMemory, MayLack, enlist_result, end_given, unless_memory, unlist_result, get_result, claimed_number, claimed_answer, listing, refs_answer, refs_result};
 ghost use Rattle.templates.specs.Table.{table};
 ghost use Rattle.turn_lock.specs.Passes.{knows, turn_knows, turn_value, turn_lock};
-ghost use Rattle.turn_lock.specs.Meeting.{Leaves};
+ghost use Rattle.turn_lock.specs.PassLaws.{Leaves};
 ghost use Rattle.turn_lock.specs.Turns.{fresh_pass, sees, Shows, StartsWith, gives_number, gets_number, joined};
 ghost use Rattle.shared_registry.specs.Faithful.{IsFaithful};
 ghost use Rattle.shared_registry.specs.Passes.{IsSound, EntersIf, recorded, given};
@@ -32,8 +32,8 @@ use turn_lock::{Pass, Turn, TurnLock};
 /// workers.
 pub type RegPass = Pass<RegEntry>;
 
-/// The registry of many callers. Each call takes one turn at the lock; its answer is the registry's for the history that
-/// the turn meets, which is what the pass has seen and then entries of others. `Memory` records nothing.
+/// The registry of many callers. Each call takes one turn at the lock; its answer is the registry's for the history
+/// that the turn meets, which is what the pass has seen and then entries of others. `Memory` records nothing.
 #[derive(Drop)]
 pub struct SharedRegistry {
     lock: TurnLock<FaithfulRegistry>,
@@ -83,8 +83,8 @@ impl SharedRegistry {
         self.wakeups.prepare_wait_for_end()
     }
 
-    /// From now on a look that begins a larval wakes a worker by these wake-ups, which wake those that sleep on a board and build
-    /// for this registry. The first that is given stays.
+    /// From now on a look that begins a larval wakes a worker by these wake-ups, which wake those that sleep on a board
+    /// and build for this registry. The first that is given stays.
     pub fn note_workers(&self, workers: WorkerWakeup) {
         self.wakeups.note_workers(workers);
     }
@@ -137,12 +137,12 @@ impl SharedRegistry {
         (turn.give(added), answer)
     }
 
-    /// Looks for the text of a name within the limits (127 bytes, 8 levels, 4 arguments at each template) that `nesting` takes: without
-    /// `plain`, which no worker may do, for any entry; with it, for an entry that isn't wrapped, where the text is the next child of
-    /// what the caller claimed last.
+    /// Looks for the text of a name within the limits (127 bytes, 8 levels, 4 arguments at each template) that
+    /// `nesting` takes: without `plain`, which no worker may do, for any entry; with it, for an entry that isn't
+    /// wrapped, where the text is the next child of what the caller claimed last.
     ///
-    /// A larval begins where nothing is found and the text has a parenthesis. That wakes a worker, where workers build for this
-    /// registry (`note_workers`). `Memory` is the only refusal.
+    /// A larval begins where nothing is found and the text has a parenthesis. That wakes a worker, where workers build
+    /// for this registry (`note_workers`). `Memory` is the only refusal.
     pub fn look<R: Wait>(
         &self,
         rt: &R,
@@ -174,8 +174,8 @@ impl SharedRegistry {
 
     /// Claims the larval of this number, or the oldest one that nobody has claimed.
     ///
-    /// Answers `None`, and records nothing, where the named one isn't pending and unclaimed, or none is. `Memory` is the
-    /// only refusal.
+    /// Answers `None`, and records nothing, where the named one isn't pending and unclaimed, or none is. `Memory` is
+    /// the only refusal.
     pub fn claim<R: Wait>(
         &self,
         rt: &R,
@@ -203,9 +203,9 @@ impl SharedRegistry {
 
     /// Ends a larval that the caller is building, with what the templates make of its looks, or with `NoMemory`.
     ///
-    /// Of an instance the answer is `Failed(EAGAIN)` where an entry below it is no longer listed; otherwise `Joined` where
-    /// an entry of its driver is listed; then `Failed(EEXIST)` and `Failed(ENFILE)` as in `enlist`; otherwise `Built`, or
-    /// `NoMemory` in its place. Each is recorded.
+    /// Of an instance the answer is `Failed(EAGAIN)` where an entry below it is no longer listed; otherwise `Joined`
+    /// where an entry of its driver is listed; then `Failed(EEXIST)` and `Failed(ENFILE)` as in `enlist`; otherwise
+    /// `Built`, or `NoMemory` in its place. Each is recorded.
     pub fn end<R: Wait>(
         &self,
         rt: &R,
@@ -231,8 +231,8 @@ impl SharedRegistry {
         (pass, answer)
     }
 
-    /// How the larval ended, of which the pass has seen that it began. Answers `None`, and records nothing, while it is pending.
-    /// `Memory` is the only refusal.
+    /// How the larval ended, of which the pass has seen that it began. Answers `None`, and records nothing, while it is
+    /// pending. `Memory` is the only refusal.
     pub fn waited<R: Wait>(
         &self,
         rt: &R,
@@ -254,8 +254,8 @@ impl SharedRegistry {
         (turn.give(added), answer)
     }
 
-    /// Takes the entry of the driver off the list, and with it what stands on it. `NoEnt` comes where no listed entry has
-    /// the driver, and is recorded. No worker may call it.
+    /// Takes the entry of the driver off the list, and with it what stands on it. `NoEnt` comes where no listed entry
+    /// has the driver, and is recorded. No worker may call it.
     pub fn unlist<R: Wait>(
         &self,
         rt: &R,
@@ -276,8 +276,8 @@ impl SharedRegistry {
         (turn.give(added), answer)
     }
 
-    /// Takes a reference to a listed entry. `Again` comes where the entry isn't listed, and is recorded. No worker may call
-    /// it.
+    /// Takes a reference to a listed entry. `Again` comes where the entry isn't listed, and is recorded. No worker may
+    /// call it.
     pub fn take_ref<R: Wait>(&self, rt: &R, pass: RegPass, id: u64) -> (RegPass, Result<(), RegErr>)
         requires lock { IsPassOn self.now pass }
         requires outsider { IsFalse (is_worker (knows pass).number) }
@@ -308,8 +308,8 @@ impl SharedRegistry {
         turn.give(true)
     }
 
-    /// The references of the newest held entry of the driver. `NoEnt` comes where there is none, and is recorded. No worker
-    /// may call it.
+    /// The references of the newest held entry of the driver. `NoEnt` comes where there is none, and is recorded. No
+    /// worker may call it.
     pub fn refs<R: Wait>(
         &self,
         rt: &R,
@@ -365,8 +365,8 @@ impl SharedRegistry {
         (turn.give(false), answer)
     }
 
-    /// Two passes of one: the first keeps its number, and the second gets this one, which is at least the first's `next` and below
-    /// 2^32 - 1. No turn is taken.
+    /// Two passes of one: the first keeps its number, and the second gets this one, which is at least the first's
+    /// `next` and below 2^32 - 1. No turn is taken.
     pub fn split(&self, pass: RegPass, number: u32) -> (RegPass, RegPass)
         requires lock { IsPassOn self.now pass }
         requires number { ((knows pass).next ≤ number) × (number + 1 < 2 ^ 32) }

@@ -8,7 +8,7 @@ ghost use Rattle.templates.specs.Nesting.{is_nested_well};
 ghost use Rattle.templates.specs.Table.{table};
 ghost use Rattle.turn_lock.specs.Passes.{knows};
 ghost use Rattle.turn_lock.specs.Turns.{fresh_pass};
-ghost use Rattle.shared_registry.specs.Building.{WasAnswered};
+ghost use Rattle.shared_registry.specs.Builds.{WasAnswered};
 ghost use Rattle.shared_registry.specs.Learned.{IsLearned};
 ghost use Rattle.shared_registry.specs.Passes.{IsSound, IsPassOn};
 ghost use Rattle.shared_registry.specs.Within.{Begins};
@@ -243,7 +243,8 @@ fn play<R: Abort + Wait>(
     }
 }
 
-/// A worker builds so many, and asks so often at most, beside a caller: what the caller came to, and how many the worker left unbuilt.
+/// A worker builds so many, and asks so often at most, beside a caller: what the caller came to, and how many the
+/// worker left unbuilt.
 fn beside_worker<R: Abort + Threads + Wait + Sync>(
     rt: &R,
     alloc: Global,

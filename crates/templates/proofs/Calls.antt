@@ -17,7 +17,7 @@ use Rattle.alg_registry.specs.Made.{Made, IsMade, with_spec}
 use Rattle.alg_names.specs.Name.{Tree, spelling}
 use Rattle.templates.specs.Names.{IsKnown}
 use Rattle.templates.specs.Table.{table, children_of, derived_of, FaultIs}
-use Rattle.templates.specs.Resolving.{weight, AreAbove, Grows, CameTo, IsOpen, LooksCome, Builds, EndsWith, Resolves}
+use Rattle.templates.specs.Resolution.{weight, AreAbove, Grows, CameTo, IsOpen, LooksCome, Builds, EndsWith, Resolves}
 use Rattle.templates.proofs.Growth.{came_now}
 use Rattle.alg_registry.proofs.Looks.{began_new}
 use Rattle.templates.proofs.Looks.{any_answer, claimable, opened, resolved, grows_look, grows_of_builds}

@@ -24,7 +24,7 @@ use Rattle.templates.specs.declared.build_errors.BuildErr.{BuildErr}
 use Rattle.templates.specs.declared.build_errors.BuildErr.TheVariants.{Fault, Memory}
 use Rattle.templates.specs.Nesting.{is_nested_well}
 use Rattle.templates.specs.Table.{table, children_of, derived_of, spellings, FaultIs}
-use Rattle.templates.specs.Resolving.{weight, weight_of, AreAbove, Grows, CameTo, Within, AllEnded, is_work, IsOpen, LooksCome, ChildFailed, Builds, Resolves}
+use Rattle.templates.specs.Resolution.{weight, weight_of, AreAbove, Grows, CameTo, Within, AllEnded, is_work, IsOpen, LooksCome, ChildFailed, Builds, Resolves}
 use Rattle.alg_registry.proofs.Stack.{same, unequal}
 use Rattle.templates.proofs.Growth.{grows_none, grows_on, within_none, within_on, split}
 use Rattle.templates.proofs.TableLaws.{table-children, table-derived, table-name}

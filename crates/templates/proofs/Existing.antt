@@ -17,8 +17,8 @@ use Rattle.alg_registry.proofs.Fresh.{length-rows_of, is_listed-within}
 use Rattle.alg_registry.proofs.LifetimeLaws.{right_at, handed_listed}
 use Rattle.templates.specs.declared.build_errors.BuildErr.{BuildErr}
 use Rattle.templates.specs.declared.build_errors.BuildErr.TheVariants as build
-use Rattle.templates.specs.Resolving.{AreAbove, AllEnded, Grows, CameTo, Resolves, is_work}
-use Rattle.templates.specs.Looking.{entry_found, found_as, is_asked, Resolved, UnlessMemory, NonePending}
+use Rattle.templates.specs.Resolution.{AreAbove, AllEnded, Grows, CameTo, Resolves, is_work}
+use Rattle.templates.specs.LookResults.{entry_found, found_as, is_asked, Resolved, UnlessMemory, NonePending}
 use Rattle.templates.proofs.Growth.{split, first_true, second_true}
 use Rattle.templates.proofs.ChildLooks.{get_within}
 

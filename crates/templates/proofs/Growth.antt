@@ -21,7 +21,7 @@ use Rattle.alg_registry.specs.Made.{Made, IsMade, building, looks_for, outcome, 
 use Rattle.alg_registry.proofs.Making.{Made-push}
 use Rattle.alg_registry.proofs.Steps.{or_none}
 use Rattle.templates.specs.Table.{table}
-use Rattle.templates.specs.Resolving.{Grows, CameTo, Within, AllEnded, is_by, is_work}
+use Rattle.templates.specs.Resolution.{Grows, CameTo, Within, AllEnded, is_by, is_work}
 use Rattle.alg_registry.proofs.Stack.{ended-stays, claimed-stays, claimed-there, length-texts, building-push, looks-push, ended-push, claimed-push, ended-new, claimed-new, stack_below, Below, filter-snoc, unequal, same}
 
 pub texts_grow : (caller : ℕ) (h h' : List RegEntry) → Grows caller h h' → length (texts h) ≤ length (texts h')

@@ -29,7 +29,7 @@ use Rattle.templates.specs.Names.{IsKnown}
 use Rattle.templates.specs.declared.build_errors.BuildErr.{BuildErr}
 use Rattle.templates.specs.declared.build_errors.BuildErr.TheVariants.{Fault, Memory}
 use Rattle.templates.specs.Table.{table}
-use Rattle.templates.specs.Resolving.{weight, weight_of, AreAbove, Grows, Within, IsOpen, Builds, Resolves, given_of, result_of, EndsWith}
+use Rattle.templates.specs.Resolution.{weight, weight_of, AreAbove, Grows, Within, IsOpen, Builds, Resolves, given_of, result_of, EndsWith}
 use Rattle.alg_registry.proofs.Stack.{ended-stays, claimed-stays, claimed-there, texts-push, length-texts, building-push, looks-push, ended-push, claimed-push, ended-new, claimed-new, last-snoc, same, looks-fresh, larval_get, belongs_not, last_below, stack_below}
 use Rattle.templates.proofs.Growth.{grows_begun, came_begun, split, none_after}
 use Rattle.templates.proofs.ChildLooks.{get_front, get_within}

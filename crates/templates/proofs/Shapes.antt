@@ -9,7 +9,7 @@ use Rattle.templates.specs.declared.template_words.Template.{Template}
 use Rattle.templates.specs.declared.template_words.Template.TheVariants.{Cbc, Ctr, Rfc3686, Xts, Gcm, GcmBase, Rfc4106, Ccm, Hmac, Cmac, Authenc, Pcrypt, Cryptd, CryptdPcrypt}
 use Rattle.templates.specs.Nesting.{has_wrapper, any_wrapper, inner_args, is_nested_well, is_wrapper_word}
 use Rattle.templates.specs.Table.{template_at, only_one, children_of, asked_by}
-use Rattle.templates.specs.Resolving.{weight}
+use Rattle.templates.specs.Resolution.{weight}
 use Rattle.templates.proofs.Words.{template_over, gcm_at, queued_at, is_queued}
 use Rattle.templates.proofs.Wrappers.{any_at}
 

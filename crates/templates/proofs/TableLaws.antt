@@ -10,7 +10,7 @@ use Rattle.alg_names.specs.Spelled.{tree_of}
 use Rattle.templates.specs.Names.{IsKnown}
 use Rattle.templates.specs.Nesting.{is_nested_well}
 use Rattle.templates.specs.Table.{table, children_of, derived_of, spellings, is_allowed}
-use Rattle.templates.specs.Resolving.{weight, weight_of}
+use Rattle.templates.specs.Resolution.{weight, weight_of}
 
 pub tree_of-spelling : (t : Tree) → IsKnown t → tree_of (spelling t) ≡ Some t
 tree_of-spelling t known = known.read

@@ -1,9 +1,9 @@
 pub mod Names
 pub mod Table
 pub mod Nesting
-pub mod Resolving
-pub mod Asking
-pub mod Looking
+pub mod Resolution
+pub mod Requirements
+pub mod LookResults
 pub mod Plans
 pub mod Trial
 pub mod Planned

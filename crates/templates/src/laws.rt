@@ -7,7 +7,7 @@ ghost use Rattle.alg_registry.specs.Legal.{LegalReg};
 ghost use Rattle.alg_registry.specs.Made.{Made};
 ghost use Rattle.alg_registry.specs.Rows.{registered};
 ghost use Rattle.alg_names.specs.Name.{Tree};
-ghost use Rattle.templates.specs.Asking.{IsTableAt, AsksForLess};
+ghost use Rattle.templates.specs.Requirements.{IsTableAt, AsksForLess};
 ghost use Rattle.templates.specs.Names.{IsKnown};
 ghost use Rattle.templates.specs.Table.{table};
 ghost use Rattle.templates.specs.Planned.{IsPlanned};

@@ -12,8 +12,8 @@ ghost use Rattle.alg_registry.specs.Made.{Made, IsMade, with_spec};
 ghost use Rattle.templates.specs.Names.{IsKnown};
 ghost use Rattle.templates.specs.Nesting.{is_nested_well};
 ghost use Rattle.templates.specs.Table.{table, children_of};
-ghost use Rattle.templates.specs.Resolving.{weight, AreAbove, Resolves, IsOpen, Within, LooksCome, ChildFailed, Builds, EndsWith, Grows, AllEnded};
-ghost use Rattle.templates.specs.Looking.{Resolved, UnlessMemory, NonePending};
+ghost use Rattle.templates.specs.Resolution.{weight, AreAbove, Resolves, IsOpen, Within, LooksCome, ChildFailed, Builds, EndsWith, Grows, AllEnded};
+ghost use Rattle.templates.specs.LookResults.{Resolved, UnlessMemory, NonePending};
 
 use crate::{BuildErr, children, derive};
 use alg_names::laws::computed_tree;

@@ -14,7 +14,7 @@ use Rattle.trace_check.specs.declared.lines.Event.TheVariants as event
 use Rattle.trace_text.specs.Trace.{trace_of, board_fits, is_event, AreEvents}
 use Rattle.trace_check.specs.Lines.{origin_of, IsLineOf, IsReadAs}
 use Rattle.trace_check.specs.Verdicts.{IsTraceOf, HasFront, BeginsWith, IsFirstBad}
-use Rattle.trace_check.specs.Reading.{IsOneLine, IsCut}
+use Rattle.trace_check.specs.TraceReader.{IsOneLine, IsCut}
 use Rattle.trace_check.proofs.Cuts.{fed, text_of, same_cut, NextLine, next_line, none_behind}
 use Rattle.trace_check.proofs.Traces.{IsSoFar, reg_line, board_line, lines, trace_lines, are_lines, count_lines, ends_of, all_front, board_more, reg_more, one_reg, one_board}
 

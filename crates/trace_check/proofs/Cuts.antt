@@ -3,7 +3,7 @@ use Rattle.std.proofs.Common.{◌≡◌, ℕ, ◌≤◌, true, not, List, [], �
 use Rattle.std.specs.Prelude.{◌==◌}
 use Rattle.std.specs.List.{list_all, flat_map}
 use Rattle.std.proofs.lemmas.Bool.{and_parts}
-use Rattle.trace_check.specs.Reading.{IsOneLine}
+use Rattle.trace_check.specs.TraceReader.{IsOneLine}
 
 -- Lines, each with a line feed behind it.
 abbrev pub fed : List ℕ → List ℕ

@@ -12,7 +12,7 @@ use Rattle.board.specs.declared.entry.Shape.TheVariants.{Pad, Queue, Chain}
 use Rattle.board.specs.declared.entry.Entered.{Entered}
 use Rattle.board.specs.declared.entry.Entered.TheVariants.{InProgress, Busy, NoSpace}
 use Rattle.board.specs.declared.entry.BoardEntry.{BoardEntry}
-use Rattle.board.specs.Shapes.{is_pad, has_line, is_serial, bound_of, lists_of, is_born, line_born, max_born, width_born, AreLists, IsShape}
+use Rattle.board.specs.Shapes.{is_pad, has_queue, is_serial, bound_of, lists_of, is_born, has_queue_born, max_born, width_born, AreLists, IsShape}
 use Rattle.board.specs.Entries.{birth, submissions, submitters, dequeued, passed_on, takers, has, front, told, verdict, waiting, starts, is_held, is_closed, is_shared, mask, IsMasked, IsMaker, maker_is, MayTake}
 use Rattle.board.specs.Legal.{IsNoWorker, MaySubmit, MayManage, Is, IsOpenAs, IsOpen}
 use Rattle.board.proofs.KeptCalls.{not_closed}
@@ -75,14 +75,14 @@ dec_unshared es s k = dec_no_flag s.shared (is_shared es) k.marks.sharing
 pub dec_open_as : {A : Type 0} (such : Shape → Bool) (es : List (BoardEntry A)) (s : PipeState) → IsPipe es s → Decides (is_open_as such s) (IsOpenAs such es)
 dec_open_as such es s k = Decides-and _ _ (dec_is such es s k) (dec_unclosed es s k)
 
-pad_or_line : (shape : Shape) → (is_pad shape ≡ true) ⊎ (has_line shape ≡ true)
+pad_or_line : (shape : Shape) → (is_pad shape ≡ true) ⊎ (has_queue shape ≡ true)
 pad_or_line (Pad lists) = inl refl
 pad_or_line (Queue max) = inr refl
 pad_or_line (Chain max lists) = inr refl
 
-either_open : {A : Type 0} (es : List (BoardEntry A)) (s : PipeState) → (is_pad s.shape ≡ true) ⊎ (has_line s.shape ≡ true) → IsPipe es s → is_closed es ≡ false → IsOpen es
+either_open : {A : Type 0} (es : List (BoardEntry A)) (s : PipeState) → (is_pad s.shape ≡ true) ⊎ (has_queue s.shape ≡ true) → IsPipe es s → is_closed es ≡ false → IsOpen es
 either_open es s (inl pad) k c = inl ((dec_is is_pad es s k).0 pad, c)
-either_open es s (inr line) k c = inr ((dec_is has_line es s k).0 line, c)
+either_open es s (inr line) k c = inr ((dec_is has_queue es s k).0 line, c)
 
 pub dec_open : {A : Type 0} (es : List (BoardEntry A)) (s : PipeState) → IsPipe es s → Decides (not s.closed) (IsOpen es)
 dec_open es s k = Decides-like (not s.closed) (either_open es s (pad_or_line s.shape) k) (not_closed es) (dec_unclosed es s k)
@@ -99,7 +99,7 @@ passed_either es s true k = k.dequeuing
 passed_either es s false k = k.requests.count
 
 passed_is : {A : Type 0} (es : List (BoardEntry A)) (s : PipeState) → IsPipe es s → passed_on es ≡ passed_by s
-passed_is es s k = ap (λ b. cond (line_born b) (dequeued es) (length (submissions es))) k.marks.born ∙ passed_either es s (has_line s.shape) k
+passed_is es s k = ap (λ b. cond (has_queue_born b) (dequeued es) (length (submissions es))) k.marks.born ∙ passed_either es s (has_queue s.shape) k
 
 few_either : (line : Bool) (gone count : ℕ) → gone ≤ count → cond line gone count ≤ count
 few_either true gone count h = h
@@ -118,7 +118,7 @@ dec_when false b p q = decides_false (λ t. (let h = p.1 t.0 in cc))
 pub dec_untaken : {A : Type 0} (es : List (BoardEntry A)) (s : PipeState) (n : ℕ) → IsPipe es s → Decides (nat_lt n (passed_by s) && passes waits s n) (IsUntaken es n)
 dec_untaken es s n k =
     let is = passed_is es s k in
-    let few = few_either (has_line s.shape) s.dequeued (length s.requests) k.within in
+    let few = few_either (has_queue s.shape) s.dequeued (length s.requests) k.within in
     dec_when (nat_lt n (passed_by s)) (passes waits s n) (dec_lt n (passed_by s) n (passed_on es) refl is) (λ lt. dec_waits_at es s.requests n (slice_get s.requests n) (omega arith) refl (k.requests.each n))
 
 dec_running_at : {A : Type 0} (es : List (BoardEntry A)) (n : ℕ) (p : Option Progress) → IsAt es n p → Decides (option_map_or runs p false) (IsRunning es n)

@@ -8,7 +8,7 @@ use Rattle.alg_registry.specs.Legal.{is_worker}
 use Rattle.board.specs.declared.entry.Shape.{Shape}
 use Rattle.board.specs.declared.entry.BoardEntry.{BoardEntry}
 use Rattle.board.specs.declared.entry.BoardEntry.TheVariants.{Born, Submit, Take, Finish, Enq, Deq, Done, Hold, Go, Collect, Close, Share, Mask, Shut}
-use Rattle.board.specs.Shapes.{is_pad, has_line, has_lists, is_serial, is_born, IsShape}
+use Rattle.board.specs.Shapes.{is_pad, has_queue, has_lists, is_serial, is_born, IsShape}
 use Rattle.board.specs.Entries.{entries_of, birth}
 use Rattle.board.specs.Legal.{Is, IsOpen, pipelines, is_shut, LegalBoard}
 use Rattle.trace_check.specs.declared.reason.Reason.{Reason}
@@ -60,11 +60,11 @@ dec_state h s (Born caller pipe shape) i k = cc
 dec_state h s (Submit caller pipe number ask) i k = Decides-and _ _ (dec_open_as is_pad _ s k) (dec_masked _ s k)
 dec_state h s (Take caller pipe number) i k = Decides-and _ _ (dec_open_as has_lists _ s k) (dec_untaken _ s number k)
 dec_state h s (Finish caller pipe number) i k = Decides-and _ _ (dec_is has_lists _ s k) (dec_running _ s number k)
-dec_state h s (Enq caller pipe ask backlog answer) i k = dec_open_as has_line _ s k
-dec_state h s (Deq caller pipe number started) i k = Decides-and _ _ (dec_open_as has_line _ s k) (dec_may_serve _ s k)
+dec_state h s (Enq caller pipe ask backlog answer) i k = dec_open_as has_queue _ s k
+dec_state h s (Deq caller pipe number started) i k = Decides-and _ _ (dec_open_as has_queue _ s k) (dec_may_serve _ s k)
 dec_state h s (Done caller pipe number) i k = Decides-and _ _ (dec_is is_serial _ s k) (dec_running _ s number k)
-dec_state h s (Hold caller pipe) i k = dec_open_as has_line _ s k
-dec_state h s (Go caller pipe) i k = dec_open_as has_line _ s k
+dec_state h s (Hold caller pipe) i k = dec_open_as has_queue _ s k
+dec_state h s (Go caller pipe) i k = dec_open_as has_queue _ s k
 dec_state h s (Collect caller pipe to) i k = dec_open _ s k
 dec_state h s (Close caller pipe) i k = Decides-and _ _ (dec_open _ s k) (dec_may_close _ s k)
 dec_state h s (Share caller pipe) i k = dec_open _ s k
@@ -124,7 +124,7 @@ no_shape such es n p = (let q : is_born such (birth es) ≡ false = ap (λ xs. i
 
 none_open : {A : Type 0} (es : List (BoardEntry A)) → es ≡ [] → IsOpen es → ⊥
 none_open es n (inl pad) = no_shape is_pad es n pad.0
-none_open es n (inr queue) = no_shape has_line es n queue.0
+none_open es n (inr queue) = no_shape has_queue es n queue.0
 
 -- an event of a pipeline that isn't there lacks its state
 pub no_state : {A : Type 0} (h : List (BoardEntry A)) (e : BoardEntry A) → is_inner e ≡ true → entries_of (pipe_of e) h ≡ [] → HasState h e → ⊥
@@ -132,11 +132,11 @@ no_state h (Born caller pipe shape) i n s = cc
 no_state h (Submit caller pipe number ask) i n s = no_shape is_pad (entries_of pipe h) n s.0.0
 no_state h (Take caller pipe number) i n s = no_shape has_lists (entries_of pipe h) n s.0.0
 no_state h (Finish caller pipe number) i n s = no_shape has_lists (entries_of pipe h) n s.0
-no_state h (Enq caller pipe ask backlog answer) i n s = no_shape has_line (entries_of pipe h) n s.0
-no_state h (Deq caller pipe number started) i n s = no_shape has_line (entries_of pipe h) n s.0.0
+no_state h (Enq caller pipe ask backlog answer) i n s = no_shape has_queue (entries_of pipe h) n s.0
+no_state h (Deq caller pipe number started) i n s = no_shape has_queue (entries_of pipe h) n s.0.0
 no_state h (Done caller pipe number) i n s = no_shape is_serial (entries_of pipe h) n s.0
-no_state h (Hold caller pipe) i n s = no_shape has_line (entries_of pipe h) n s.0
-no_state h (Go caller pipe) i n s = no_shape has_line (entries_of pipe h) n s.0
+no_state h (Hold caller pipe) i n s = no_shape has_queue (entries_of pipe h) n s.0
+no_state h (Go caller pipe) i n s = no_shape has_queue (entries_of pipe h) n s.0
 no_state h (Collect caller pipe to) i n s = none_open (entries_of pipe h) n s
 no_state h (Close caller pipe) i n s = none_open (entries_of pipe h) n s.0
 no_state h (Share caller pipe) i n s = none_open (entries_of pipe h) n s

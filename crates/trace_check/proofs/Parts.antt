@@ -7,7 +7,7 @@ use Rattle.board.specs.declared.entry.Entered.{Entered}
 use Rattle.board.specs.declared.entry.Entered.TheVariants.{InProgress, Busy, NoSpace}
 use Rattle.board.specs.declared.entry.BoardEntry.{BoardEntry}
 use Rattle.board.specs.declared.entry.BoardEntry.TheVariants.{Born, Submit, Take, Finish, Enq, Deq, Done, Hold, Go, Collect, Close, Share, Mask, Shut}
-use Rattle.board.specs.Shapes.{pad_born, line_born}
+use Rattle.board.specs.Shapes.{pad_born, has_queue_born}
 use Rattle.board.specs.Entries.{entries_of, birth, submissions, verdict, is_closed, maker_is}
 use Rattle.board.specs.Legal.{MayManage, IsOpen, pipelines, IsRight}
 use Rattle.board.proofs.KeptCalls.{not_closed}
@@ -19,13 +19,13 @@ use Rattle.trace_check.proofs.Deciding.{verdict_by}
 use Rattle.trace_check.proofs.Judging.{IsBoard, IsPlace, HasAll, IsJudged, judged_is}
 use Rattle.trace_check.proofs.Requests.{some_taker}
 
-maker_some : (b : Option (ℕ × Shape)) (caller : ℕ) → maker_is b caller → (pad_born b ≡ true) ⊎ (line_born b ≡ true)
+maker_some : (b : Option (ℕ × Shape)) (caller : ℕ) → maker_is b caller → (pad_born b ≡ true) ⊎ (has_queue_born b ≡ true)
 maker_some None caller m = absurd m
 maker_some (Some (maker, Pad lists)) caller m = inl refl
 maker_some (Some (maker, Queue max)) caller m = inr refl
 maker_some (Some (maker, Chain max lists)) caller m = inr refl
 
-either_open : {A : Type 0} (es : List (BoardEntry A)) → is_closed es ≡ false → (pad_born (birth es) ≡ true) ⊎ (line_born (birth es) ≡ true) → IsOpen es
+either_open : {A : Type 0} (es : List (BoardEntry A)) → is_closed es ≡ false → (pad_born (birth es) ≡ true) ⊎ (has_queue_born (birth es) ≡ true) → IsOpen es
 either_open es c (inl p) = inl (p, c)
 either_open es c (inr q) = inr (q, c)
 

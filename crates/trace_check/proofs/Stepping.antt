@@ -13,7 +13,7 @@ use Rattle.board.specs.declared.entry.Entered.{Entered}
 use Rattle.board.specs.declared.entry.Entered.TheVariants.{InProgress, Busy, NoSpace}
 use Rattle.board.specs.declared.entry.BoardEntry.{BoardEntry}
 use Rattle.board.specs.declared.entry.BoardEntry.TheVariants.{Born, Submit, Take, Finish, Enq, Deq, Done, Hold, Go, Collect, Close, Share, Mask, Shut}
-use Rattle.board.specs.Shapes.{has_line, has_lists, is_serial}
+use Rattle.board.specs.Shapes.{has_queue, has_lists, is_serial}
 use Rattle.board.specs.Entries.{front, accepted_in, submitter_in, dequeued_in, dequeues, taken_in, finished_in, finished, tells, told, collected_in, held_in, masked_in, is_share, is_close}
 use Rattle.board.proofs.Lists.{filter_map-none, filter_map-some}
 use Rattle.board.proofs.Kept.{closed-same, collected-same, held-same, shared-same}
@@ -216,7 +216,7 @@ pipe_step es s (Finish caller pipe number) i t m k =
 pipe_step es s (Enq caller pipe ask backlog answer) i t m k = entered_step es s caller pipe ask backlog answer k
 pipe_step es s (Deq caller pipe number started) i t m k =
     let next : number ≡ s.dequeued = eqb-true number s.dequeued (and_parts (number == s.dequeued) (same_number started (starts_by s number)) m).0 in
-    let serve = and_parts (not s.held) ((not (is_serial s.shape) || s.finished == s.dequeued) && nat_lt 0 (backlog_of s)) (and_parts (is_open_as has_line s) (may_serve s) t).1 in
+    let serve = and_parts (not s.held) ((not (is_serial s.shape) || s.finished == s.dequeued) && nat_lt 0 (backlog_of s)) (and_parts (is_open_as has_queue s) (may_serve s) t).1 in
     let some_wait : 0 < backlog_of s = ltb-true 0 (backlog_of s) (and_parts (not (is_serial s.shape) || s.finished == s.dequeued) (nat_lt 0 (backlog_of s)) serve.1).1 in
     dequeued_step es s caller pipe number started (is_serial s.shape) refl next (omega arith) k
 pipe_step es s (Done caller pipe number) i t m k =

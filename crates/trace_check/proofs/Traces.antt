@@ -12,7 +12,7 @@ use Rattle.trace_text.specs.Text.{sentence, reg_words, board_words}
 use Rattle.trace_text.specs.Trace.{trace_of, has_text, fits, board_fits, is_event, AreEvents}
 use Rattle.trace_check.specs.Lines.{origin_of}
 use Rattle.trace_check.specs.Verdicts.{HasFront}
-use Rattle.trace_check.specs.Reading.{IsOneLine}
+use Rattle.trace_check.specs.TraceReader.{IsOneLine}
 use Rattle.trace_check.proofs.Numerals.{words_unlike, is_not}
 use Rattle.trace_check.proofs.LineWords.{registry_are, board_are}
 use Rattle.trace_check.proofs.Cuts.{fed, text_of, AreLines}

@@ -4,7 +4,7 @@ pub mod Pipes
 pub mod EventParser
 pub mod Lines
 pub mod Verdicts
-pub mod Reading
+pub mod TraceReader
 pub mod RegReasons
 pub mod AskLines
 pub mod Registers

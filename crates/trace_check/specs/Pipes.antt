@@ -9,7 +9,7 @@ use Rattle.std.specs.BTreeSet.{insert_key}
 use Rattle.alg_registry.specs.Legal.{is_worker}
 use Rattle.board.specs.declared.entry.Shape.{Shape}
 use Rattle.board.specs.declared.entry.Shape.TheVariants.{Pad, Queue, Chain}
-use Rattle.board.specs.Shapes.{is_pad, has_line, has_lists, is_serial, bound_of, lists_of}
+use Rattle.board.specs.Shapes.{is_pad, has_queue, has_lists, is_serial, bound_of, lists_of}
 use Rattle.board.specs.declared.entry.Entered.{Entered}
 use Rattle.board.specs.declared.entry.Entered.TheVariants.{InProgress, Busy, NoSpace}
 use Rattle.board.specs.declared.entry.BoardEntry.{BoardEntry}
@@ -113,7 +113,7 @@ backlog_of s = length s.requests - s.dequeued
 
 -- how many are past the line
 abbrev pub passed_by : PipeState → ℕ
-passed_by s = if has_line s.shape then s.dequeued else length s.requests
+passed_by s = if has_queue s.shape then s.dequeued else length s.requests
 
 abbrev pub starts_by : PipeState → ℕ → Option ℕ
 starts_by s number = if nat_lt (number + bound_of s.shape) (length s.requests) then Some (number + bound_of s.shape) else None
@@ -156,11 +156,11 @@ has_state s (Born caller pipe shape) = false
 has_state s (Submit caller pipe number ask) = is_open_as is_pad s && nat_lt 0 s.mask
 has_state s (Take caller pipe number) = is_open_as has_lists s && (nat_lt number (passed_by s) && passes waits s number)
 has_state s (Finish caller pipe number) = has_lists s.shape && passes runs s number
-has_state s (Enq caller pipe ask backlog answer) = is_open_as has_line s
-has_state s (Deq caller pipe number started) = is_open_as has_line s && may_serve s
+has_state s (Enq caller pipe ask backlog answer) = is_open_as has_queue s
+has_state s (Deq caller pipe number started) = is_open_as has_queue s && may_serve s
 has_state s (Done caller pipe number) = is_serial s.shape && passes runs s number
-has_state s (Hold caller pipe) = is_open_as has_line s
-has_state s (Go caller pipe) = is_open_as has_line s
+has_state s (Hold caller pipe) = is_open_as has_queue s
+has_state s (Go caller pipe) = is_open_as has_queue s
 has_state s (Collect caller pipe to) = not s.closed
 has_state s (Close caller pipe) = not s.closed && may_close s
 has_state s (Share caller pipe) = not s.closed

@@ -2,7 +2,7 @@
 
 ghost use Rattle.std.specs.Prelude.{◌≡◌, ◌+◌, ◌≤◌, ◌&&◌, nat_lt, if◌then◌else◌, length, slice_set, drop, true, OnOk};
 ghost use Rattle.alg_registry.specs.Legal.{is_worker};
-ghost use Rattle.board.specs.Shapes.{is_pad, has_line, has_lists, is_serial, bound_of, lists_of};
+ghost use Rattle.board.specs.Shapes.{is_pad, has_queue, has_lists, is_serial, bound_of, lists_of};
 ghost use Rattle.trace_check.specs.Pipes.{state_of, new_pipe, full_mask, are_lists, is_shape, is_open_as, waits, runs, runs_by, has_ended, passes, backlog_of, passed_by, starts_by, may_serve, may_close, may_manage, may_submit, is_masked, may_take, has_bits, same_number, is_numbered, is_answered, reason_of, judged_on, ended_run, notices_in, with_request, with_entered, with_taken, with_ended, with_dequeued, with_finished, with_done, after, CanCount};
 
 use crate::reason::{Reason, reason_of};
@@ -47,8 +47,8 @@ fn is_pad(shape: Shape) -> bool
     }
 }
 
-fn has_line(shape: Shape) -> bool
-    ensures { result ≡ has_line shape }
+fn has_queue(shape: Shape) -> bool
+    ensures { result ≡ has_queue shape }
 {
     match shape {
         Shape::Pad(_) => false,
@@ -230,9 +230,9 @@ impl Pipeline {
     }
 
     fn is_open_queue(&self) -> bool
-        ensures { result ≡ is_open_as has_line (state_of self.now) }
+        ensures { result ≡ is_open_as has_queue (state_of self.now) }
     {
-        has_line(self.shape) && !self.closed
+        has_queue(self.shape) && !self.closed
     }
 
     fn has_open_lists(&self) -> bool
@@ -283,7 +283,7 @@ impl Pipeline {
     fn passed(&self) -> u64
         ensures { result ≡ passed_by (state_of self.now) }
     {
-        if has_line(self.shape) {
+        if has_queue(self.shape) {
             self.dequeued
         } else {
             self.len()

@@ -118,7 +118,7 @@ pub(crate) fn is_free_at(larvals: &[LarvalState], number: u64) -> bool
     ensures { result ≡ passes is_free (map larval_of larvals.now) number }
 {
     match larvals.get(number as usize) {
-        Some(larva) => larva.ended.is_none() && larva.claimed.is_none(),
+        Some(larval) => larval.ended.is_none() && larval.claimed.is_none(),
         None => false,
     }
 }
@@ -128,7 +128,7 @@ pub(crate) fn is_being_built_at(larvals: &[LarvalState], number: u64) -> bool
     ensures { result ≡ passes is_being_built (map larval_of larvals.now) number }
 {
     match larvals.get(number as usize) {
-        Some(larva) => larva.claimed.is_some() && larva.ended.is_none(),
+        Some(larval) => larval.claimed.is_some() && larval.ended.is_none(),
         None => false,
     }
 }
@@ -137,7 +137,7 @@ pub(crate) fn has_ended_at(larvals: &[LarvalState], number: u64) -> bool
     ensures { result ≡ passes has_ended (map larval_of larvals.now) number }
 {
     match larvals.get(number as usize) {
-        Some(larva) => larva.ended.is_some(),
+        Some(larval) => larval.ended.is_some(),
         None => false,
     }
 }
@@ -264,9 +264,9 @@ fn joined_marks(
     ensures { IfOk result (λ marks. AreJoined (map larval_of larvals.now) text.now count marks.items) }
 {
     let mut marks = vec![in alloc; false; count]?;
-    for larva in larvals {
-        if is_same(larva.text.as_slice(), text) {
-            mark_end(&mut marks, larva.ended);
+    for larval in larvals {
+        if is_same(larval.text.as_slice(), text) {
+            mark_end(&mut marks, larval.ended);
         }
     }
     Ok(marks)

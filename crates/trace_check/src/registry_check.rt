@@ -36,7 +36,13 @@ fn opening_entries(alloc: Global) -> Result<Vec<Entry>, AllocError>
 {
     let mut entries = Vec::new(alloc);
     add_opened(alloc, &mut entries, b"aes", b"aes-generic", Kind::Cipher)?;
-    add_opened(alloc, &mut entries, b"sha256", b"sha256-generic", Kind::Hash)?;
+    add_opened(
+        alloc,
+        &mut entries,
+        b"sha256",
+        b"sha256-generic",
+        Kind::Hash,
+    )?;
     add_opened(alloc, &mut entries, b"ghash", b"ghash-generic", Kind::Ghash)?;
     Ok(entries)
 }

@@ -81,8 +81,8 @@ fn claim_larval(larvals: &mut [LarvalState], caller: u32, number: u64)
 {
     let place = number as usize;
     if place < larvals.len() {
-        let larva = &mut larvals[place];
-        larva.claimed = Some(caller);
+        let larval = &mut larvals[place];
+        larval.claimed = Some(caller);
     }
 }
 
@@ -91,8 +91,8 @@ fn end_larval(larvals: &mut [LarvalState], number: u64, ended: Ended)
 {
     let place = number as usize;
     if place < larvals.len() {
-        let larva = &mut larvals[place];
-        larva.ended = Some(ended);
+        let larval = &mut larvals[place];
+        larval.ended = Some(ended);
     }
 }
 

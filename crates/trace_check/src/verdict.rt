@@ -5,10 +5,10 @@ ghost use Rattle.std.specs.List.{list_all};
 ghost use Rattle.trace_text.specs.Trace.{is_event};
 ghost use Rattle.trace_check.specs.Verdicts.{AreJudged, IsVerdict};
 
-use crate::reading::{Events, Reading, read_trace};
 use crate::reason::Reason;
 use crate::registry_check::first_wrong_entry;
 use crate::table::first_wrong_event;
+use crate::trace_reader::{Events, Reading, read_trace};
 use std::alloc::{AllocError, Global};
 
 /// What a text is.

@@ -14,7 +14,7 @@ use Rattle.board.specs.declared.entry.Entered.{Entered}
 use Rattle.board.specs.declared.entry.Entered.TheVariants.{InProgress, Busy, NoSpace}
 use Rattle.board.specs.declared.entry.Shape.{Shape}
 use Rattle.templates.specs.declared.driver_plans.Plan.{Plan}
-use Rattle.templates.specs.Looking.{Found, Entry, Fault}
+use Rattle.templates.specs.LookResults.{Found, Entry, Fault}
 use Rattle.transforms.specs.declared.request.Request.{Request}
 use Rattle.transforms.specs.Asked.{takes}
 use Rattle.transforms.specs.Plans.{takes_key, takes_tag}
@@ -23,21 +23,21 @@ use Rattle.script_text.specs.declared.commands.Command.{Command}
 use Rattle.script_text.specs.declared.commands.Command.TheVariants as command
 use Rattle.script_text.specs.declared.commands.Line.{Line}
 use Rattle.script_text.specs.declared.commands.Line.TheVariants as line
-use Rattle.dialogues.specs.Allocating.{is_chained, shape_for, fault_of, creates, binds, binds_plan, alloc, closes}
+use Rattle.dialogues.specs.AllocAndFree.{is_chained, shape_for, fault_of, creates, binds, binds_plan, alloc, closes}
 use Rattle.dialogues.specs.BoardCalls.{BoardCall, Asked}
 use Rattle.dialogues.specs.Dialogues.{Dialogue, Ends, Says, Asks, Posts, followed, unless, for_live, missing}
 use Rattle.dialogues.specs.Lines.{command_dialogue, line_dialogue, lines_dialogue, script, script_beside}
 use Rattle.dialogues.specs.Names.{name_read, is_queue_length, plan_for, driver_spec}
-use Rattle.dialogues.specs.Piping.{if_pad, with_pad, if_queue, with_queue, polls_in, drains_in, lets_go, drains_at_end, let_all_go, drain_all, end, end_beside}
-use Rattle.dialogues.specs.Probing.{found_said, looks_up, looks_all}
+use Rattle.dialogues.specs.PipelineCommands.{if_pad, with_pad, if_queue, with_queue, polls_in, drains_in, lets_go, drains_at_end, let_all_go, drain_all, end, end_beside}
+use Rattle.dialogues.specs.Probe.{found_said, looks_up, looks_all}
 use Rattle.dialogues.specs.Questions.{RegAnswer, reg_call, reg_answer, BoardAnswer, board_call, board_answer}
-use Rattle.dialogues.specs.Registering.{enlist_spec}
+use Rattle.dialogues.specs.RegistryCommands.{enlist_spec}
 use Rattle.dialogues.specs.RegistryCalls.{RegCall, Unlists, Counts, reg_call_of, reg_calls, reg_calls_from, prepend}
-use Rattle.dialogues.specs.Requesting.{is_too_big, entered, hands_in, requests_in, requests_under, request}
-use Rattle.dialogues.specs.Sharing.{shares, share_all, closing}
+use Rattle.dialogues.specs.RequestCommands.{is_too_big, entered, hands_in, requests_in, requests_under, request}
+use Rattle.dialogues.specs.SharedTransforms.{shares, share_all, closing}
 use Rattle.dialogues.specs.Transcripts.{Transcript, broken, asking, posting, transcript_of}
 use Rattle.dialogues.specs.ScriptState.{ScriptState, Live, PipelineState, live_of, shared_of, either}
-use Rattle.trace_laws.specs.Naming.{NamesWords, AsksOfWord}
+use Rattle.trace_laws.specs.DriverNames.{NamesWords, AsksOfWord}
 
 -- ---- dialogues
 

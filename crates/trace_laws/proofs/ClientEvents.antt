@@ -16,9 +16,9 @@ use Rattle.script_text.specs.Parts.{cut_lines, behind_mark, parts_of}
 use Rattle.script_text.specs.Script.{script_of}
 use Rattle.transforms.specs.declared.ask.Ask.{Ask}
 use Rattle.client_texts.specs.Outputs.{AreClientTexts, IsOutputBy}
-use Rattle.client_texts.specs.Sharing.{IsOneOf}
+use Rattle.client_texts.specs.OneList.{IsOneOf}
 use Rattle.trace_laws.specs.Clients.{ClientTracesCanBeRead}
-use Rattle.trace_laws.specs.Naming.{AsksOfWord}
+use Rattle.trace_laws.specs.DriverNames.{AsksOfWord}
 use Rattle.trace_laws.proofs.Asking.{EntryOf, entries_of_calls, beside_asks_of_words, part_asks_of_words, closing_asks_of_words}
 use Rattle.trace_laws.proofs.Events.{IsNamed, script_alone, events_have_text, are_events}
 use Rattle.trace_laws.proofs.Words.{lines_name_words}

@@ -15,7 +15,7 @@ use Rattle.dialogues.specs.ScriptState.{start}
 use Rattle.script_text.specs.Script.{script_of}
 use Rattle.templates.specs.Table.{table}
 use Rattle.trace_text.specs.Trace.{has_words, has_text, fits, is_event}
-use Rattle.trace_laws.specs.Naming.{AsksOfWord}
+use Rattle.trace_laws.specs.DriverNames.{AsksOfWord}
 use Rattle.trace_laws.specs.Readable.{TracesCanBeRead}
 use Rattle.trace_laws.proofs.Asking.{EntryOf, entries_of_calls, script_asks_of_words}
 use Rattle.trace_laws.proofs.Registered.{registered_have_words, enlisted_has_text, end_has_words}

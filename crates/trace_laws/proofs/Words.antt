@@ -23,7 +23,7 @@ use Rattle.script_text.specs.declared.commands.Command.TheVariants as says
 use Rattle.script_text.specs.declared.commands.Line.{Line}
 use Rattle.script_text.specs.declared.commands.Line.TheVariants.{Nothing, Malformed, Cmd}
 use Rattle.trace_text.specs.Trace.{is_visible, is_word}
-use Rattle.trace_laws.specs.Naming.{NamesWords}
+use Rattle.trace_laws.specs.DriverNames.{NamesWords}
 
 has_bytes : (b : ℕ) (bs : List ℕ) → nat_lt 0 (length (b ∷ bs)) ≡ true
 has_bytes b bs = lt-ltb 0 (length (b ∷ bs)) (omega arith)

@@ -6,7 +6,7 @@ use Rattle.alg_registry.specs.Made.{Made}
 use Rattle.alg_registry.specs.Rows.{caller_of}
 use Rattle.board.specs.declared.entry.BoardEntry.{BoardEntry}
 use Rattle.client_texts.specs.Outputs.{IsOutput}
-use Rattle.client_texts.specs.Sharing.{IsOneOf}
+use Rattle.client_texts.specs.OneList.{IsOneOf}
 use Rattle.templates.specs.Table.{table}
 use Rattle.trace_text.specs.Asks.{ask_origin}
 use Rattle.trace_text.specs.Trace.{FitTypes, AreEvents}

@@ -1,3 +1,3 @@
-pub mod Naming
+pub mod DriverNames
 pub mod Readable
 pub mod Clients

@@ -124,8 +124,8 @@ iv_size (AuthencCtr aes) = 16
 iv_size (AuthencRfc3686 aes) = 8
 iv_size (AuthencXts aes) = 16
 
--- CCM takes an IV whose byte 0 is 1 to 7 (SP 800-38C, A.1), fewer than 2^16 - 2^8 associated bytes, whose number then stands in
--- two bytes (A.2.2), and fewer than 2^16 bytes of text, whose number then stands in q bytes for each q
+-- CCM takes an IV whose byte 0 is 1 to 7 (SP 800-38C, A.1), fewer than 2^16 - 2^8 associated bytes, whose number then
+-- stands in two bytes (A.2.2), and fewer than 2^16 bytes of text, whose number then stands in q bytes for each q
 abbrev pub ccm_takes_input : List ℕ → ℕ → ℕ → Bool
 ccm_takes_input iv associated text = ccm_takes_iv iv && nat_lt associated 65280 && nat_lt text 65536
 

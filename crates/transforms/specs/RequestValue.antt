@@ -94,8 +94,8 @@ under_mac mac tag opened = if bytes_eq (take (length tag) mac) tag then opened e
 abbrev pub cipher_request : List ℕ → Request → Request
 cipher_request text q = record q { aad = []; text = in_one text }
 
--- by the two keys of the blob: what e makes of the text, and the MAC of the associated bytes and that; what e makes of a
--- ciphertext, where its MAC is right
+-- by the two keys of the blob: what e makes of the text, and the MAC of the associated bytes and that; what e makes of
+-- a ciphertext, where its MAC is right
 abbrev pub authenc_gives : Gives → Gives
 authenc_gives e key n q =
     by_keys

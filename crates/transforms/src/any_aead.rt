@@ -125,7 +125,8 @@ impl AnyAead {
         }
     }
 
-    /// RFC 4106 under a key, whose last four bytes are the salt. `Inval` exactly where the rest hasn't 16, 24 or 32 bytes.
+    /// RFC 4106 under a key, whose last four bytes are the salt. `Inval` exactly where the rest hasn't 16, 24 or 32
+    /// bytes.
     pub fn rfc4106(
         alloc: Global,
         form: AesForm,
@@ -156,7 +157,8 @@ impl AnyAead {
         Ok(AnyAead::Ccm(Ccm::new(AnyAes::new(alloc, form, key)?)))
     }
 
-    /// authenc under a key blob. `Inval` exactly where the blob doesn't read, or the mode doesn't take its cipher's key.
+    /// authenc under a key blob. `Inval` exactly where the blob doesn't read, or the mode doesn't take its cipher's
+    /// key.
     pub fn authenc(
         alloc: Global,
         mode: CipherMode,

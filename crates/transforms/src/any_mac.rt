@@ -54,8 +54,8 @@ impl AnyMac {
         }
     }
 
-    /// How many bytes the room for the MAC of a text has. HMAC goes over the segments of the text. CMAC takes it in one piece, which
-    /// stands before the MAC's place where the text lies in several segments.
+    /// How many bytes the room for the MAC of a text has. HMAC goes over the segments of the text. CMAC takes it in one
+    /// piece, which stands before the MAC's place where the text lies in several segments.
     pub fn room_length(&self, text: &Segs) -> usize
         requires { length text.now.text < 2 ^ 32 }
         ensures { result ≡ length (room_in self.now text.now) }

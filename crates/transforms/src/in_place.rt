@@ -1,5 +1,5 @@
-//! Requests whose bytes lie where their caller has them. The text is changed in its place: none of it is copied, and no memory is
-//! taken.
+//! Requests whose bytes lie where their caller has them. The text is changed in its place: none of it is copied, and no
+//! memory is taken.
 
 ghost use Rattle.std.specs.Prelude.{◌≡◌, ◌≤◌, ◌<◌, ◌^◌, ◌++◌, ◌==◌, ◌&&◌, length, take, true, MatchResult};
 ghost use Rattle.std_defs.specs.Value.Value.{bytes};
@@ -166,9 +166,10 @@ fn make_kept(kept: &Inner, text: &[u8], room: &mut [u8; 32]) -> Result<usize, Er
 }
 
 impl Keyed {
-    /// Seals a text in its place, and writes its tag. The tag has a size that the plan takes, or no bytes where the plan has none;
-    /// `aad` and `text` have fewer than 2^32 bytes each. `EINVAL` exactly where the request isn't taken or its value is `invalid`:
-    /// text and tag are then unchanged. An IV must never be used twice under a key, but with XTS and CBC.
+    /// Seals a text in its place, and writes its tag. The tag has a size that the plan takes, or no bytes where the
+    /// plan has none; `aad` and `text` have fewer than 2^32 bytes each. `EINVAL` exactly where the request isn't taken
+    /// or its value is `invalid`: text and tag are then unchanged. An IV must never be used twice under a key, but with
+    /// XTS and CBC.
     pub fn seal_in_place(
         &self,
         iv: &[u8],
@@ -186,9 +187,9 @@ impl Keyed {
         seal_kept(self.inner(), iv, aad, text, tag)
     }
 
-    /// Opens a text in its place, under its tag. The tag has a size that the plan takes, or no bytes where the plan has none; `aad`
-    /// and `text` have fewer than 2^32 bytes each. `EBADMSG` exactly where the tag is wrong, and `EINVAL` exactly where the request
-    /// isn't taken or its value is `invalid`: the text is then unchanged.
+    /// Opens a text in its place, under its tag. The tag has a size that the plan takes, or no bytes where the plan has
+    /// none; `aad` and `text` have fewer than 2^32 bytes each. `EBADMSG` exactly where the tag is wrong, and `EINVAL`
+    /// exactly where the request isn't taken or its value is `invalid`: the text is then unchanged.
     pub fn open_in_place(
         &self,
         iv: &[u8],
@@ -206,8 +207,8 @@ impl Keyed {
         open_kept(self.inner(), iv, aad, text, tag)
     }
 
-    /// Writes the MAC of a text to the front of `room`, and answers how many bytes it has: 32 under HMAC with SHA-256, 16 under CMAC.
-    /// `EINVAL` exactly where the plan is no MAC.
+    /// Writes the MAC of a text to the front of `room`, and answers how many bytes it has: 32 under HMAC with SHA-256,
+    /// 16 under CMAC. `EINVAL` exactly where the plan is no MAC.
     pub fn make_in_place(&self, text: &[u8], room: &mut [u8; 32]) -> Result<usize, Errno>
         ensures { MatchResult result
             (λ n. (n ≡ mac_size self.now.0) × (n ≤ 32) × HasValue self.now 0 (making text.now) (bytes (take n room.new)))

@@ -47,11 +47,11 @@ impl Job {
     }
 }
 
-/// Takes a request, and all the memory that its job will ever need. The ask's tag size is one that the plan takes, or 0 where it
-/// has no tag; its associated bytes and its text have fewer than 2^32 bytes each. Unless memory ran out (`Memory`), `Inval` exactly where
-/// the direction isn't one of the plan's kind, the IV has a wrong length, associated bytes stand on a plan that has no tag, a
-/// decryption is shorter than its tag, or under CCM byte 0 of the IV isn't 1 to 7, there are 65,280 associated bytes or more, or
-/// 65,536 bytes of text without the tag or more.
+/// Takes a request, and all the memory that its job will ever need. The ask's tag size is one that the plan takes, or 0
+/// where it has no tag; its associated bytes and its text have fewer than 2^32 bytes each. Unless memory ran out
+/// (`Memory`), `Inval` exactly where the direction isn't one of the plan's kind, the IV has a wrong length, associated
+/// bytes stand on a plan that has no tag, a decryption is shorter than its tag, or under CCM byte 0 of the IV isn't 1
+/// to 7, there are 65,280 associated bytes or more, or 65,536 bytes of text without the tag or more.
 pub fn prepare(alloc: Global, ask: Arc<Ask>) -> Result<Job, TfmErr>
     requires { IsFit (arc_value ask) }
     ensures { MatchResult result

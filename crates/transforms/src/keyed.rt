@@ -22,8 +22,8 @@ use std::alloc::{AllocError, Global};
 use std::marker::Model;
 use templates::Plan;
 
-/// A plan under a key, seen as the plan and the key's bytes. A plan stands for its driver, the name of its instance without
-/// `pcrypt` and `cryptd`.
+/// A plan under a key, seen as the plan and the key's bytes. A plan stands for its driver, the name of its instance
+/// without `pcrypt` and `cryptd`.
 #[derive(Drop)]
 pub struct Keyed {
     pub(crate) plan: Plan,
@@ -49,8 +49,9 @@ impl Keyed {
     ghost use Rattle.transforms.specs.Forms.{form_of, key_of};
     ghost use Rattle.transforms.specs.Keys.{IsKeyed};
 
-    /// Sets a key. Unless memory ran out (`Memory`), `Inval` exactly where the plan doesn't take it: AES takes 16, 24 or 32 bytes, RFC
-    /// 3686 and RFC 4106 4 bytes more, XTS 32 or 64, HMAC any number, and authenc a blob with a cipher key that its cipher takes.
+    /// Sets a key. Unless memory ran out (`Memory`), `Inval` exactly where the plan doesn't take it: AES takes 16, 24
+    /// or 32 bytes, RFC 3686 and RFC 4106 4 bytes more, XTS 32 or 64, HMAC any number, and authenc a blob with a cipher
+    /// key that its cipher takes.
     pub fn set(alloc: Global, plan: &Plan, key: &[u8]) -> Result<Keyed, TfmErr>
         ensures { MatchResult result
             (λ keyed. (keyed ≡ (plan.now, key.now)) × (takes_key plan.now key.now ≡ true))

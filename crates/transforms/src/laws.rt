@@ -14,8 +14,8 @@ ghost use Rattle.transforms.specs.RequestValue.{request_value};
 ghost use Rattle.transforms.specs.declared.ask.Ask.{Ask};
 ghost use Rattle.transforms.specs.declared.request.Request.{Request};
 
-/// Whatever driver has a plan is the plan's own, or that in a `pcrypt` or a `cryptd`, and gives what the plan's own gives.
-/// So an ask has the value of its request at each driver of its transform's plan.
+/// Whatever driver has a plan is the plan's own, or that in a `pcrypt` or a `cryptd`, and gives what the plan's own
+/// gives. So an ask has the value of its request at each driver of its transform's plan.
 pub fn drivers_have_values()
     ensures planned { (plan : Plan) → plan_at (driver_of plan) ≡ Some plan }
     ensures unwrapped { (driver : Tree) (plan : Plan) → plan_at driver ≡ Some plan → unwrapped driver ≡ driver_of plan }
@@ -24,8 +24,8 @@ pub fn drivers_have_values()
         → ask_value ask ≡ request_value driver (arc_value ask.keyed).1 ask.authsize ask.request }
 {}
 
-/// How the text of a request is cut into segments changes nothing: with its text in one segment the request has the same value, and
-/// is taken by the same plans.
+/// How the text of a request is cut into segments changes nothing: with its text in one segment the request has the
+/// same value, and is taken by the same plans.
 pub fn cuts_change_nothing()
     ensures value { (driver : Tree) (key : List ℕ) (n : ℕ) (q : Request)
         → request_value driver key n q ≡ request_value driver key n (uncut q) }

@@ -11,8 +11,8 @@ pub enum Dir {
     Mac,
 }
 
-/// A request. For a transform with a tag, the text of a decryption is the ciphertext and then the tag. How the text is cut into
-/// segments changes nothing of what comes of the request.
+/// A request. For a transform with a tag, the text of a decryption is the ciphertext and then the tag. How the text is
+/// cut into segments changes nothing of what comes of the request.
 #[derive(Debug, Drop)]
 pub struct Request {
     pub dir: Dir,

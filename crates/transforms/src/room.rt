@@ -1,5 +1,5 @@
-//! The memory of a job's answer. It is reserved with the job and written as the job runs, so that whoever runs it is the first to touch
-//! it.
+//! The memory of a job's answer. It is reserved with the job and written as the job runs, so that whoever runs it is
+//! the first to touch it.
 
 ghost use Rattle.std.specs.Prelude.{◌≡◌, ◌++◌, ◌+◌, ◌≤◌, ◌<◌, ◌^◌, [], length, vec_capacity, replicate};
 ghost use Rattle.std.specs.List.{concat};

@@ -16,8 +16,8 @@ fn same_bytes(a: &[u8], b: &[u8]) -> bool
 }
 
 impl Keyed {
-    /// Whether the other has the same plan and the same key. Every byte of keys of one length is looked at, wherever the first
-    /// difference is.
+    /// Whether the other has the same plan and the same key. Every byte of keys of one length is looked at, wherever
+    /// the first difference is.
     pub fn is_same(&self, other: &Keyed) -> bool
         ensures { IsTrue result ↔ (self.now ≡ other.now) }
     {

@@ -8,8 +8,8 @@ use gcm_mode::{takes_gcm_tag, takes_rfc4106_tag};
 use kc_base::Errno;
 use templates::Plan;
 
-/// Whether the plan takes a tag of `n` bytes: GCM 4, 8 and 12 to 16, RFC 4106 8, 12 and 16, CCM the even sizes from 4 to 16, authenc
-/// 1 to 32. `EINVAL` exactly where it doesn't, or has no tag. No memory is taken.
+/// Whether the plan takes a tag of `n` bytes: GCM 4, 8 and 12 to 16, RFC 4106 8, 12 and 16, CCM the even sizes from 4
+/// to 16, authenc 1 to 32. `EINVAL` exactly where it doesn't, or has no tag. No memory is taken.
 pub fn tag_size(plan: &Plan, n: u32) -> Result<(), Errno>
     ensures taken { MatchResult result (λ _. takes_tag plan.now n ≡ true) (λ e. (e ≡ Errno.EINVAL) × (takes_tag plan.now n ≡ false)) }
     ensures fits { OnOk result (fits_tag plan.now n ≡ true) }
@@ -26,8 +26,8 @@ pub fn tag_size(plan: &Plan, n: u32) -> Result<(), Errno>
     if taken { Ok(()) } else { Err(Errno::EINVAL) }
 }
 
-/// The tag size of a transform before another is set, in bytes: 16 under GCM, RFC 4106 and CCM, 32 under authenc, and 0 on a plan
-/// that has no tag.
+/// The tag size of a transform before another is set, in bytes: 16 under GCM, RFC 4106 and CCM, 32 under authenc, and 0
+/// on a plan that has no tag.
 pub fn largest_tag_size(plan: &Plan) -> u32
     ensures size { result ≡ tag_size_of plan.now }
     ensures fits { fits_tag plan.now result ≡ true }

@@ -5,7 +5,7 @@ ghost use Rattle.std.specs.Thread.{IsSync};
 ghost use Rattle.turn_lock.specs.declared.tests.Entry.{Entry};
 ghost use Rattle.turn_lock.specs.Passes.{knows, IsPassOf};
 ghost use Rattle.turn_lock.specs.Turns.{of};
-ghost use Rattle.turn_lock.specs.Meeting.{AtTurn, Enters, Leaves};
+ghost use Rattle.turn_lock.specs.PassLaws.{AtTurn, Enters, Leaves};
 
 use crate::{Pass, Told, TurnLock};
 use std::alloc::{AllocError, Global};

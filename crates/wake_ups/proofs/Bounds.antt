@@ -5,8 +5,8 @@ use Rattle.wake_ups.specs.Wakeups.{Wakeups, Word, NotBefore, May, At, without, a
 use Rattle.wake_ups.specs.Wakeups.Step.{Move_epoch, Wake_none}
 use Rattle.wake_ups.specs.Laws.{lookers}
 
--- The jobs are no more than r and the awake, or what one had read; for each that read it earlier with one more for each that
--- read later; and than r, the awake and all of these.
+-- The jobs are no more than r and the awake, or what one had read; for each that read it earlier with one more for each
+-- that read later; and than r, the awake and all of these.
 abbrev pub Covers : ℕ → ℕ → ℕ → List ℕ → Type 0
 Covers j a r [] = j ≤ a + r
 Covers j a r (v ∷ vs) = (j ≤ max a v + r) × Covers j a (suc r) vs

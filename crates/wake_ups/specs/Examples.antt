@@ -1,5 +1,5 @@
--- A run in which a worker sleeps and is woken, and one that loses a wake-up where an exchange compares the number of the
--- unnoticed alone.
+-- A run in which a worker sleeps and is woken, and one that loses a wake-up where an exchange compares the number of
+-- the unnoticed alone.
 use Rattle.std.specs.Prelude.{◌≡◌, List, [], ◌∷◌}
 use Rattle.wake_ups.specs.Wakeups.{Wakeups, Word, Step}
 use Rattle.wake_ups.specs.Wakeups.Step.{Announce, Count, End_and_find_none, Find_no_waiter, Find_waiter, Forget, Give_up, Keep, Keep_last, Last_find_none, Leave, Spin, Look_and_find_none, Look_and_take, Move_epoch, Notice_none, Notice_while_awake, Put, Read_epoch, Read_unnoticed, Notify, Rouse, Sleep, Wake, Wake_none}

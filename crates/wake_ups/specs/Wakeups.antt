@@ -1,4 +1,5 @@
--- The wake-ups of a board: their words, and where all who use them stand. A step is one access of a word, or a turn at the board.
+-- The wake-ups of a board: their words, and where all who use them stand. A step is one access of a word, or a turn at
+-- the board.
 use Rattle.std.specs.Prelude.{◌≡◌, ◌⊎◌, ℕ, ◌+◌, ◌-◌, ◌<◌, ◌≤◌, List, [], ◌∷◌, ◌++◌, zero, suc}
 
 -- The word that a caller adds to as it counts a job: how many came at all, and how many of these are unnoticed.
@@ -15,7 +16,8 @@ noticed_one w = record { came = w.came; unnoticed = w.unnoticed - 1 }
 abbrev pub forgotten : Word → Word
 forgotten w = record { came = w.came; unnoticed = 0 }
 
--- What was read earlier: fewer had come, or as many and no fewer were unnoticed. Each change of the word leads on in this order.
+-- What was read earlier: fewer had come, or as many and no fewer were unnoticed. Each change of the word leads on in
+-- this order.
 abbrev pub NotBefore : Word → Word → Type 0
 NotBefore read now = (read.came < now.came) ⊎ ((read.came ≡ now.came) × (now.unnoticed ≤ read.unnoticed))
 
@@ -115,8 +117,8 @@ without k [] = []
 without zero (x ∷ xs) = xs
 without (suc k) (x ∷ xs) = x ∷ without k xs
 
--- where the step may be taken: what was read before a turn is any that the word may have been; `Same` is how an exchange compares
--- what was read with the word
+-- where the step may be taken: what was read before a turn is any that the word may have been; `Same` is how an
+-- exchange compares what was read with the word
 abbrev pub MayBy : (Word → Word → Type 0) → Wakeups → Step → Type 0
 MayBy Same b Put = Unit {0}
 MayBy Same b Count = 0 < b.putting

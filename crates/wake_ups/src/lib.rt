@@ -1,4 +1,5 @@
-//! That no wake-up of a board's workers is lost: a law of a machine whose steps are those of the wake-ups and of their callers.
+//! That no wake-up of a board's workers is lost: a law of a machine whose steps are those of the wake-ups and of their
+//! callers.
 #![tactic(auto)]
 
 mod laws;

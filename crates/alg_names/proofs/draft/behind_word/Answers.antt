@@ -1,7 +1,7 @@
 use Rattle.std.proofs.Common.{sym, subst}
 use Rattle.alg_names.specs.Name.{IsAllowed, node}
 use Rattle.alg_names.specs.Built.{args_from}
-use Rattle.alg_names.specs.Drafting.{frames}
+use Rattle.alg_names.specs.Drafts.{frames}
 use Rattle.alg_names.proofs.Drafted.{word_allowed}
 use Rattle.alg_names.proofs.draft.behind_word.Goals as goal
 

@@ -4,7 +4,7 @@ use Rattle.std.proofs.lemmas.List.{take_all}
 use Rattle.alg_names.specs.Name.{IsName, IsAllowed, node, end}
 use Rattle.alg_names.specs.Built.{args_from}
 use Rattle.alg_names.specs.Reader.{IsFine, reading, run, start, wide}
-use Rattle.alg_names.specs.Drafting.{reading_of, frames, place_of, StopsAt}
+use Rattle.alg_names.specs.Drafts.{reading_of, frames, place_of, StopsAt}
 use Rattle.alg_names.proofs.Building.{fine_front, read_more, stops_refused, end_begins, end_word, end_whole}
 use Rattle.alg_names.proofs.parser.build.Goals as goal
 

@@ -1,6 +1,6 @@
 use Rattle.std.proofs.Common.{◌≡◌, take}
 use Rattle.alg_names.specs.Reader.{run, start, IsNarrow}
-use Rattle.alg_names.specs.Drafting.{reading_of}
+use Rattle.alg_names.specs.Drafts.{reading_of}
 use Rattle.alg_names.proofs.parser.build.Given as goal
 
 abbrev pub invariant-loop-byte : goal.invariant-loop-byte

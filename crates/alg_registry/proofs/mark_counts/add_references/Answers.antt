@@ -1,7 +1,7 @@
 use Rattle.std.proofs.Common.{◌≡◌, ◌∙◌, ℕ, ◌-◌, ◌^◌, List, [], ◌∷◌, eqb, take, get_or, sym, ap, subst, arith}
 use Rattle.std.specs.List.{All, list_any}
 use Rattle.alg_registry.specs.declared.row.Row.{Row}
-use Rattle.alg_registry.specs.Counting.{referred}
+use Rattle.alg_registry.specs.MarkCounts.{referred}
 use Rattle.alg_registry.proofs.Tallies.{HasFewer, referred-none, referred-again, referred-new, few-referred}
 use Rattle.alg_registry.proofs.mark_counts.add_references.Goals as goal
 use Rattle.alg_registry.proofs.mark_counts.add_references.Goals.{then-not-is_among, else-not-is_among}

@@ -1,5 +1,5 @@
 use Rattle.std.proofs.Common.{◌≡◌, take}
-use Rattle.alg_registry.specs.Counting.{referred}
+use Rattle.alg_registry.specs.MarkCounts.{referred}
 use Rattle.alg_registry.proofs.mark_counts.add_references.Given as goal
 
 abbrev pub invariant-loop-i : goal.invariant-loop-i

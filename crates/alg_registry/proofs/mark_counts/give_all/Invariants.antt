@@ -1,5 +1,5 @@
 use Rattle.std.proofs.Common.{◌≡◌, ◌≤◌, length, drop}
-use Rattle.alg_registry.specs.Counting.{gave_all}
+use Rattle.alg_registry.specs.MarkCounts.{gave_all}
 use Rattle.alg_registry.proofs.mark_counts.give_all.Given as goal
 
 -- those from i on have given their references on

@@ -1,5 +1,5 @@
 use Rattle.std.proofs.Common.{◌≡◌, length, drop}
-use Rattle.alg_registry.specs.Counting.{remarked_all}
+use Rattle.alg_registry.specs.MarkCounts.{remarked_all}
 use Rattle.alg_registry.proofs.mark_counts.remark_all.Given as goal
 
 -- those that are left give what all give

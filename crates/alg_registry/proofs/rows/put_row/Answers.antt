@@ -4,7 +4,7 @@ use Rattle.std.specs.Prelude.{not}
 use Rattle.std.specs.List.{All}
 use Rattle.alg_registry.specs.declared.row.Row.{Row}
 use Rattle.alg_registry.specs.Calls.{put_row_of}
-use Rattle.alg_registry.specs.Counting.{remarked_all, restood}
+use Rattle.alg_registry.specs.MarkCounts.{remarked_all, restood}
 use Rattle.alg_registry.specs.Rows.{standing}
 use Rattle.alg_registry.proofs.Restanding.{any_default}
 use Rattle.alg_registry.proofs.Restood.{held-within}

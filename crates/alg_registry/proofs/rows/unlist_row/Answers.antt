@@ -3,7 +3,7 @@ use Rattle.std.proofs.lemmas.List.{length-set}
 use Rattle.std.specs.List.{All}
 use Rattle.alg_registry.specs.declared.row.Row.{Row}
 use Rattle.alg_registry.specs.Calls.{unlisted_row}
-use Rattle.alg_registry.specs.Counting.{remarked_all, restood}
+use Rattle.alg_registry.specs.MarkCounts.{remarked_all, restood}
 use Rattle.alg_registry.specs.Rows.{standing}
 use Rattle.alg_registry.proofs.Fresh.{is_listed-within}
 use Rattle.alg_registry.proofs.Restanding.{any_default}

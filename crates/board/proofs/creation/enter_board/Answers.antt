@@ -1,15 +1,15 @@
 use Rattle.std.specs.Prelude.{is_err}
 use Rattle.std.proofs.Common.{◌≡◌, true, false, sym}
 use Rattle.board.proofs.Kept.{added_here, on_ok, on_err}
-use Rattle.board.proofs.LinesHold.{others_on, lines_but_on}
+use Rattle.board.proofs.RunQueuesHold.{others_on, queues_but_on}
 use Rattle.board.proofs.creation.enter_board.Goals as goal
 
 pub returns-then-is_err-clause-ready : goal.returns-then-is_err-clause-ready
-returns-then-is_err-clause-ready g c = lines_but_on c.args.pipe c.args.ready.now c.enter_lines.new.ready c.leave.new.self c.in_ok-enter_lines.ensures.ready c.leave.ensures
+returns-then-is_err-clause-ready g c = queues_but_on c.args.pipe c.args.ready.now c.enter_run_queues.new.ready c.leave.new.self c.in_ok-enter_run_queues.ensures.ready c.leave.ensures
 
 pub returns-then-is_err-clause-passing : goal.returns-then-is_err-clause-passing
 returns-then-is_err-clause-passing g c =
-    others_on c.args.pipe c.args.passing.now c.enter_lines.new.passing c.leave-then-is_err.new.self c.in_ok-enter_lines.ensures.passing c.leave-then-is_err.ensures.others
+    others_on c.args.pipe c.args.passing.now c.enter_run_queues.new.passing c.leave-then-is_err.new.self c.in_ok-enter_run_queues.ensures.passing c.leave-then-is_err.ensures.others
 
 pub returns-then-is_err-clause-unchanged : goal.returns-then-is_err-clause-unchanged
 returns-then-is_err-clause-unchanged g c =

@@ -1,7 +1,7 @@
 use Rattle.std.proofs.Common.{sym}
 use Rattle.board.specs.Places.{places}
 use Rattle.board.specs.RunQueue.{HasJobFor}
-use Rattle.board.proofs.LinesHold.{one_at}
+use Rattle.board.proofs.RunQueuesHold.{one_at}
 use Rattle.board.proofs.next_pipeline.has_job_at.Goals as goal
 
 pub returns-in-Some : goal.returns-in-Some

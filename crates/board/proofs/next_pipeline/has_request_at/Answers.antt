@@ -1,8 +1,8 @@
 use Rattle.std.proofs.Common.{sym}
 use Rattle.board.specs.Places.{places}
 use Rattle.board.specs.RunQueue.{HasRequest}
-use Rattle.board.proofs.LinesHold.{one_at}
-use Rattle.board.proofs.KeptLines.{passes_or_not}
+use Rattle.board.proofs.RunQueuesHold.{one_at}
+use Rattle.board.proofs.KeptRunQueues.{passes_or_not}
 use Rattle.board.proofs.next_pipeline.has_request_at.Goals as goal
 
 pub returns-in-Some : goal.returns-in-Some

@@ -1,4 +1,4 @@
-use Rattle.board.proofs.LinesHold.{both_ways_round}
+use Rattle.board.proofs.RunQueuesHold.{both_ways_round}
 use Rattle.board.proofs.run_queues.next_of.Goals as goal
 
 pub returns-else-own-clause-next : goal.returns-else-own-clause-next

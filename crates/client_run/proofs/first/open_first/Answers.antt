@@ -4,7 +4,7 @@ use Rattle.dialogues.specs.Dialogues.{Ends}
 use Rattle.dialogues.specs.Lines.{lines_dialogue}
 use Rattle.dialogues.specs.Widths.{widest}
 use Rattle.reply_text.specs.Written.{Written}
-use Rattle.script_session.specs.Running.{Replies}
+use Rattle.script_session.specs.Replies.{Replies}
 use Rattle.script_text.specs.Script.{script_of}
 use Rattle.recorded_calls.specs.Passes.{known}
 use Rattle.turn_lock.specs.Passes.{knows}

@@ -1,5 +1,5 @@
 use Rattle.std.proofs.Common.{refl, sym, subst}
-use Rattle.script_session.specs.Gathering.{IsJoined}
+use Rattle.script_session.specs.SharedEnd.{IsJoined}
 use Rattle.std.specs.Arc.{arc_value}
 use Rattle.turn_lock.specs.Passes.{knows}
 use Rattle.client_run.specs.WithWorkers.{printed_by}

@@ -2,7 +2,7 @@ use Rattle.std.proofs.Common.{refl, ◌∙◌, ap, ◌++◌, true, false, Ok, le
 use Rattle.board.specs.Entries.{entries_of, told, delivered, caller_of}
 use Rattle.turn_lock.specs.Passes.{knows}
 use Rattle.board.specs.Legal.{LegalBoard}
-use Rattle.turn_lock.specs.Going.{at_ok, at_err}
+use Rattle.turn_lock.specs.TurnLaws.{at_ok, at_err}
 use Rattle.crew.proofs.Works.{worked_still, worked_on, worked_none, managed_worked, open_worked}
 use Rattle.crew.proofs.board_work.drain.Goals as goal
 

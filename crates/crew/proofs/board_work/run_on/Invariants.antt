@@ -1,7 +1,7 @@
 use Rattle.std.specs.Prelude.{IfSome}
 use Rattle.turn_lock.specs.Passes.{knows}
 use Rattle.shared_board.specs.Passes.{IsPassOn}
-use Rattle.crew.specs.Working.{HasTaken, Worked}
+use Rattle.crew.specs.BoardWork.{HasTaken, Worked}
 use Rattle.crew.proofs.board_work.run_on.Given as goal
 
 abbrev pub invariant-loop : goal.invariant-loop

@@ -2,7 +2,7 @@ use Rattle.std.proofs.Common.{ap, inl}
 use Rattle.turn_lock.specs.Passes.{knows}
 use Rattle.board.specs.Entries.{caller_of}
 use Rattle.board.specs.Legal.{LegalBoard}
-use Rattle.turn_lock.specs.Going.{at_some, at_none}
+use Rattle.turn_lock.specs.TurnLaws.{at_some, at_none}
 use Rattle.crew.proofs.Works.{finished_on, first_worked, two_turns, passed_worked, passed_some}
 use Rattle.crew.proofs.board_work.work_by.Goals as goal
 

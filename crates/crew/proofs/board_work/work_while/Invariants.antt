@@ -1,6 +1,6 @@
 use Rattle.turn_lock.specs.Passes.{knows}
 use Rattle.shared_board.specs.Passes.{IsPassOn}
-use Rattle.crew.specs.Working.{Worked}
+use Rattle.crew.specs.BoardWork.{Worked}
 use Rattle.crew.proofs.board_work.work_while.Given as goal
 
 abbrev pub invariant-loop : goal.invariant-loop

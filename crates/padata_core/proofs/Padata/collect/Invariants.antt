@@ -1,5 +1,5 @@
 use Rattle.std.proofs.Common.{◌≡◌, length}
-use Rattle.padata_core.specs.Collecting.{StillCollecting}
+use Rattle.padata_core.specs.Collection.{StillCollecting}
 use Rattle.padata_core.proofs.Padata.collect.Given as goal
 
 abbrev pub invariant-loop-number : goal.invariant-loop-number

@@ -1,4 +1,4 @@
-use Rattle.board.specs.Staying.{IsOpenFor}
+use Rattle.board.specs.PipelineHistory.{IsOpenFor}
 use Rattle.board.specs.Shapes.{is_pad}
 use Rattle.pipeline_tests.proofs.pads.are_limited.Given as goal
 

@@ -1,7 +1,7 @@
 use Rattle.std.proofs.Common.{refl}
-use Rattle.board.specs.Shapes.{has_line}
+use Rattle.board.specs.Shapes.{has_queue}
 use Rattle.pipeline_tests.proofs.Staying.{done, open_after}
 use Rattle.pipeline_tests.proofs.queues.go.Goals as goal
 
 pub returns : goal.returns
-returns g c = open_after has_line c.pipelines_stay.ensures.managed (c.pipelines_stay.ensures.stays_open has_line) _ _ _ c.args.pipe 0 (done _ _ _ c.go.result c.go.ensures.going) refl c.requires
+returns g c = open_after has_queue c.pipelines_stay.ensures.managed (c.pipelines_stay.ensures.stays_open has_queue) _ _ _ c.args.pipe 0 (done _ _ _ c.go.result c.go.ensures.going) refl c.requires

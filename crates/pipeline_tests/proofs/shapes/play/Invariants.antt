@@ -1,4 +1,4 @@
-use Rattle.board.specs.Staying.{IsOpenFor}
+use Rattle.board.specs.PipelineHistory.{IsOpenFor}
 use Rattle.pipeline_tests.proofs.shapes.play.Given as goal
 
 -- the pipeline stays open to its maker

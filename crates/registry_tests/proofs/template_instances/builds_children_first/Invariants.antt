@@ -1,6 +1,6 @@
 use Rattle.alg_registry.specs.Made.{Made}
 use Rattle.templates.specs.Table.{table}
-use Rattle.templates.specs.Looking.{NonePending}
+use Rattle.templates.specs.LookResults.{NonePending}
 use Rattle.registry_tests.proofs.template_instances.builds_children_first.Given as goal
 
 -- between builds the history is one of faithful builds, and no larval is pending

@@ -1,6 +1,6 @@
 use Rattle.std.proofs.Common.{refl, arith}
 use Rattle.dialogues.specs.Lines.{lines_dialogue}
-use Rattle.dialogues.specs.Piping.{end}
+use Rattle.dialogues.specs.PipelineCommands.{end}
 use Rattle.load_mode.specs.Lines.{request_line, request_lines}
 use Rattle.load_mode.specs.Requests.{asked_for, drawn_request}
 use Rattle.script_run.proofs.Going.{goes-then}

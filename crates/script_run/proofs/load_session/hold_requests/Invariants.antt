@@ -1,7 +1,7 @@
 use Rattle.dialogues.specs.Lines.{lines_dialogue}
-use Rattle.dialogues.specs.Piping.{end}
+use Rattle.dialogues.specs.PipelineCommands.{end}
 use Rattle.load_mode.specs.Lines.{request_lines}
-use Rattle.script_session.specs.Running.{IsReady}
+use Rattle.script_session.specs.Replies.{IsReady}
 use Rattle.script_run.specs.Loads.{PerformsOn}
 use Rattle.script_run.specs.Runs.{GoesOn}
 use Rattle.script_run.proofs.LoadLines.{LeftAt}

@@ -1,8 +1,8 @@
 use Rattle.std.proofs.Common.{◌++◌, map, take, ap, sym, ◌∙◌, arith, append_assoc}
 use Rattle.std.specs.List.{flat_map}
 use Rattle.reply_text.specs.Answers.{text_of}
-use Rattle.script_session.specs.Saying.{callback_room}
-use Rattle.script_session.specs.Telling.{callback_said}
+use Rattle.script_session.specs.ReplyText.{callback_room}
+use Rattle.script_session.specs.CallbackText.{callback_said}
 use Rattle.script_session.proofs.Rooms.{room-more, room-within, said-more}
 use Rattle.script_session.proofs.callbacks.put_callbacks.Goals as goal
 

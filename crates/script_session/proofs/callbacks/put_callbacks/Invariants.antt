@@ -2,8 +2,8 @@ use Rattle.std.proofs.Common.{◌≡◌, ◌+◌, ◌≤◌, ◌++◌, map, take
 use Rattle.std.specs.Prelude.{sum_by}
 use Rattle.std.specs.List.{flat_map}
 use Rattle.reply_text.specs.Answers.{text_of}
-use Rattle.script_session.specs.Saying.{callback_room}
-use Rattle.script_session.specs.Telling.{callback_said}
+use Rattle.script_session.specs.ReplyText.{callback_room}
+use Rattle.script_session.specs.CallbackText.{callback_said}
 use Rattle.script_session.proofs.callbacks.put_callbacks.Given as goal
 
 abbrev pub invariant-loop-callback : goal.invariant-loop-callback

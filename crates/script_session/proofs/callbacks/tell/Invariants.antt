@@ -1,6 +1,6 @@
 use Rattle.std.proofs.Common.{◌≡◌, ◌++◌, length, map}
 use Rattle.std.specs.Vec.Iter.{into_iter_items, into_iter_len}
-use Rattle.script_session.specs.Telling.{callback_said}
+use Rattle.script_session.specs.CallbackText.{callback_said}
 use Rattle.script_session.proofs.callbacks.tell.Given as goal
 
 abbrev pub invariant-loop-callback : goal.invariant-loop-callback

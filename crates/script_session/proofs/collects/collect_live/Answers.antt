@@ -2,12 +2,12 @@ use Rattle.std.proofs.Common.{ap, sym, ◌∙◌, ◌++◌, map, length, arith}
 use Rattle.std.specs.Prelude.{sum_by}
 use Rattle.std.specs.List.{flat_map}
 use Rattle.board.specs.Allowance.{accepted_by}
-use Rattle.board.specs.Handing.{completions}
+use Rattle.board.specs.HandedOut.{completions}
 use Rattle.dialogues.specs.ScriptState.{PipelineState}
 use Rattle.reply_text.specs.Answers.{text_of}
 use Rattle.recorded_calls.specs.Passes.{known}
-use Rattle.script_session.specs.Saying.{callback_room}
-use Rattle.script_session.specs.Telling.{callback_said}
+use Rattle.script_session.specs.ReplyText.{callback_room}
+use Rattle.script_session.specs.CallbackText.{callback_said}
 use Rattle.script_session.proofs.Moving.{fails}
 use Rattle.script_session.proofs.Piped.{from-empty, collect-none, collect-held, may-deliver-polled}
 use Rattle.script_session.proofs.Rooms.{room-enough, collected-length}

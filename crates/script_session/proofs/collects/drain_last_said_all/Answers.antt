@@ -1,12 +1,12 @@
 use Rattle.std.proofs.Common.{◌∙◌, ◌<◌, ◌≤◌, [], refl, sym, subst, ap}
 use Rattle.std.specs.Prelude.{sum_by}
 use Rattle.std.proofs.lemmas.List.Elements.{All-nil}
-use Rattle.dialogues.specs.Piping.{drains_at_end, drain_all}
+use Rattle.dialogues.specs.PipelineCommands.{drains_at_end, drain_all}
 use Rattle.dialogues.specs.ScriptState.{Live}
 use Rattle.recorded_calls.specs.Passes.{known}
 use Rattle.transforms.specs.AskValue.{ask_size}
-use Rattle.script_session.specs.Ending.{StopsMoving, AllDelivered}
-use Rattle.script_session.specs.Saying.{SaysMove}
+use Rattle.script_session.specs.EndOfInput.{StopsMoving, AllDelivered}
+use Rattle.script_session.specs.ReplyText.{SaysMove}
 use Rattle.script_session.specs.States.{HasPipe}
 use Rattle.script_session.proofs.Leading.{drain-more, drain-split}
 use Rattle.script_session.proofs.Moving.{on-board, breaks-further, paid-further, all-paid, fails}

@@ -1,6 +1,6 @@
 use Rattle.std.proofs.Common.{◌≡◌, take}
 use Rattle.recorded_calls.specs.Passes.{known, lock_of}
-use Rattle.script_session.specs.Ending.{AreAllDelivered}
+use Rattle.script_session.specs.EndOfInput.{AreAllDelivered}
 use Rattle.script_session.proofs.Said.{SaidSoFar}
 use Rattle.script_session.proofs.collects.drain_last_said_all.Given as goal
 

@@ -1,9 +1,9 @@
 use Rattle.std.proofs.Common.{◌∙◌, ◌<◌, ◌≤◌, refl, sym, subst}
 use Rattle.std.proofs.lemmas.List.Elements.{All-nil}
-use Rattle.dialogues.specs.Piping.{drains_at_end, drain_all}
+use Rattle.dialogues.specs.PipelineCommands.{drains_at_end, drain_all}
 use Rattle.dialogues.specs.ScriptState.{Live}
 use Rattle.recorded_calls.specs.Passes.{known}
-use Rattle.script_session.specs.Ending.{Moves, StopsMoving, AllDelivered}
+use Rattle.script_session.specs.EndOfInput.{Moves, StopsMoving, AllDelivered}
 use Rattle.script_session.specs.States.{HasPipe}
 use Rattle.script_session.proofs.Leading.{drain-more, drain-split}
 use Rattle.script_session.proofs.Moving.{sets-out, on-board, goes-further, breaks-further, paid-further, all-moved, all-paid, fails}

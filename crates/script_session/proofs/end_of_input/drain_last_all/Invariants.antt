@@ -1,7 +1,7 @@
 use Rattle.std.proofs.Common.{◌≡◌, take}
-use Rattle.dialogues.specs.Piping.{drain_all}
+use Rattle.dialogues.specs.PipelineCommands.{drain_all}
 use Rattle.recorded_calls.specs.Passes.{known, lock_of}
-use Rattle.script_session.specs.Ending.{AreAllDelivered}
+use Rattle.script_session.specs.EndOfInput.{AreAllDelivered}
 use Rattle.script_session.proofs.Moving.{OnTheWay}
 use Rattle.script_session.proofs.end_of_input.drain_last_all.Given as goal
 

@@ -1,8 +1,8 @@
 use Rattle.std.proofs.Common.{◌∙◌, ◌<◌, ◌≤◌, [], refl, sym, subst}
-use Rattle.dialogues.specs.Piping.{lets_go, let_all_go}
+use Rattle.dialogues.specs.PipelineCommands.{lets_go, let_all_go}
 use Rattle.dialogues.specs.ScriptState.{Live}
 use Rattle.recorded_calls.specs.Passes.{known}
-use Rattle.script_session.specs.Ending.{Moves, StopsMoving}
+use Rattle.script_session.specs.EndOfInput.{Moves, StopsMoving}
 use Rattle.script_session.specs.States.{HasPipe}
 use Rattle.script_session.proofs.Leading.{let-more, let-split}
 use Rattle.script_session.proofs.Moving.{sets-out, on-board, goes-further, breaks-further, all-moved, fails}

@@ -1,7 +1,7 @@
 use Rattle.std.proofs.Common.{◌≡◌, []}
-use Rattle.dialogues.specs.Piping.{let_all_go}
+use Rattle.dialogues.specs.PipelineCommands.{let_all_go}
 use Rattle.recorded_calls.specs.Passes.{known, lock_of}
-use Rattle.script_session.specs.Saying.{Tells}
+use Rattle.script_session.specs.ReplyText.{Tells}
 use Rattle.script_session.proofs.Moving.{OnTheWay}
 use Rattle.script_session.proofs.end_of_input.release_all.Given as goal
 

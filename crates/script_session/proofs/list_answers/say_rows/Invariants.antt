@@ -1,5 +1,5 @@
 use Rattle.std.proofs.Common.{◌≡◌, ◌++◌, map, take}
-use Rattle.dialogues.specs.Registering.{row_said}
+use Rattle.dialogues.specs.RegistryCommands.{row_said}
 use Rattle.script_session.proofs.list_answers.say_rows.Given as goal
 
 abbrev pub invariant-loop-row : goal.invariant-loop-row

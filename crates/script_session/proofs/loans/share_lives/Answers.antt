@@ -1,6 +1,6 @@
 use Rattle.std.proofs.Common.{subst}
 use Rattle.recorded_calls.specs.Passes.{known}
-use Rattle.script_session.specs.Lending.{SharesAll}
+use Rattle.script_session.specs.Loans.{SharesAll}
 use Rattle.script_session.proofs.Lends.{shares-then}
 use Rattle.script_session.proofs.loans.share_lives.Goals as goal
 

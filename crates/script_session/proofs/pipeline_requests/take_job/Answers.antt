@@ -2,10 +2,10 @@ use Rattle.std.proofs.Common.{ap, sym, ◌∙◌, ◌++◌, ◌∷◌, [], subst
 use Rattle.std.specs.Arc.{arc_value}
 use Rattle.board.specs.declared.entry.Entered.{Entered}
 use Rattle.board.specs.declared.entry.Entered.TheVariants.{InProgress, Busy, NoSpace}
-use Rattle.dialogues.specs.Requesting.{value_said}
+use Rattle.dialogues.specs.RequestCommands.{value_said}
 use Rattle.dialogues.specs.ScriptState.{Live, PipelineState}
 use Rattle.recorded_calls.specs.Passes.{known}
-use Rattle.script_session.specs.Offering.{Offered}
+use Rattle.script_session.specs.Offers.{Offered}
 use Rattle.script_session.proofs.Moving.{fails}
 use Rattle.script_session.proofs.Piped.{says-for, says-kept, request-plain, request-mask_is_empty, request-big, request-holds, request-stopped, accepted-live}
 use Rattle.script_session.proofs.Stopping.{for-nothing, for-kept}

@@ -1,5 +1,5 @@
 use Rattle.std.proofs.Common.{◌∙◌, ◌+◌, sym, subst, take, List, ℕ, [], ◌∷◌, ◌++◌}
-use Rattle.script_session.specs.Probing.{Searched, LooksFirst}
+use Rattle.script_session.specs.Probe.{Searched, LooksFirst}
 use Rattle.script_session.proofs.Probed.{LooksFor, stopped, take-more, looks-begin, looks-more, looks-still, looks-one-more}
 use Rattle.script_session.proofs.probe_command.look_for_all.Goals as goal
 

@@ -1,5 +1,5 @@
 use Rattle.std.proofs.Common.{◌∙◌, sym, ap, refl, Err}
-use Rattle.script_session.specs.Probing.{Searched}
+use Rattle.script_session.specs.Probe.{Searched}
 use Rattle.script_session.proofs.Probed.{settles-refused}
 use Rattle.script_session.proofs.probe_command.settle.Goals as goal
 

@@ -1,6 +1,6 @@
 use Rattle.std.proofs.Common.{◌∙◌, sym, ap, subst, take, List, [], ◌∷◌, ◌++◌, append-nil, append_assoc}
 use Rattle.recorded_calls.specs.Passes.{known}
-use Rattle.script_session.specs.Probing.{Searched, MaySettle, SettlesThen}
+use Rattle.script_session.specs.Probe.{Searched, MaySettle, SettlesThen}
 use Rattle.script_session.proofs.Probed.{stopped, take-more, builds-then, settles-begin, settles-builds, settles-more, may-still}
 use Rattle.script_session.proofs.probe_command.settle_all.Goals as goal
 

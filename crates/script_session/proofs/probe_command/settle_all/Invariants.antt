@@ -1,6 +1,6 @@
 use Rattle.std.proofs.Common.{◌≡◌, ◌++◌, List, take}
 use Rattle.reply_text.specs.declared.answers.Answer.{Answer}
-use Rattle.script_session.specs.Probing.{SettlesThen}
+use Rattle.script_session.specs.Probe.{SettlesThen}
 use Rattle.script_session.proofs.probe_command.settle_all.Given as goal
 
 abbrev pub invariant-loop-search : goal.invariant-loop-search

@@ -3,9 +3,9 @@ use Rattle.board.specs.declared.entry.BoardEntry.{BoardEntry}
 use Rattle.board.specs.Legal.{LegalBoard}
 use Rattle.transforms.specs.declared.ask.Ask.{Ask}
 use Rattle.turn_lock.specs.Turns.{Known}
-use Rattle.dialogues.specs.Requesting.{set_key}
+use Rattle.dialogues.specs.RequestCommands.{set_key}
 use Rattle.recorded_calls.specs.Passes.{known}
-use Rattle.script_session.specs.Changing.{PerformsFor}
+use Rattle.script_session.specs.TransformChanges.{PerformsFor}
 use Rattle.script_session.specs.States.{HasPipe}
 use Rattle.script_session.specs.declared.settings.Setting.TheVariants as set
 use Rattle.script_session.proofs.Arms.{or-stops}

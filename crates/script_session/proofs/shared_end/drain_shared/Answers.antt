@@ -1,9 +1,9 @@
 use Rattle.std.proofs.Common.{ap, sym, ◌∙◌, ◌++◌, map, append_assoc}
-use Rattle.board.specs.Handing.{completions}
+use Rattle.board.specs.HandedOut.{completions}
 use Rattle.dialogues.specs.ScriptState.{PipelineState}
 use Rattle.recorded_calls.specs.Passes.{known}
-use Rattle.dialogues.specs.Piping.{end_said}
-use Rattle.script_session.specs.Telling.{callback_said}
+use Rattle.dialogues.specs.PipelineCommands.{end_said}
+use Rattle.script_session.specs.CallbackText.{callback_said}
 use Rattle.script_session.proofs.Joined.{drains-no, freed-lent, drains-gathered, drains-beside, beside-sees, kept-beside, beside-then}
 use Rattle.script_session.proofs.Moving.{fails}
 use Rattle.script_session.proofs.Piped.{from-empty}

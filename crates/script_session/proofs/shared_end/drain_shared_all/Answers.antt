@@ -1,8 +1,8 @@
 use Rattle.std.proofs.Common.{◌∙◌, refl}
-use Rattle.dialogues.specs.Piping.{drains_at_end, drain_all}
+use Rattle.dialogues.specs.PipelineCommands.{drains_at_end, drain_all}
 use Rattle.dialogues.specs.ScriptState.{Live}
 use Rattle.recorded_calls.specs.Passes.{known}
-use Rattle.script_session.specs.Gathering.{HasFreed, HasDelivered}
+use Rattle.script_session.specs.SharedEnd.{HasFreed, HasDelivered}
 use Rattle.script_session.proofs.Joined.{lent-sets-out, next-lent, lent-further, all-lent, goes-sees, beside-then}
 use Rattle.script_session.proofs.Leading.{drain-more}
 use Rattle.script_session.proofs.Moving.{fails}

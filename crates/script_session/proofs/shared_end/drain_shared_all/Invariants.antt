@@ -1,7 +1,7 @@
 use Rattle.std.proofs.Common.{◌≡◌}
-use Rattle.dialogues.specs.Piping.{drain_all}
+use Rattle.dialogues.specs.PipelineCommands.{drain_all}
 use Rattle.recorded_calls.specs.Passes.{known, lock_of}
-use Rattle.script_session.specs.Gathering.{HasFreed, HasDelivered}
+use Rattle.script_session.specs.SharedEnd.{HasFreed, HasDelivered}
 use Rattle.script_session.proofs.Joined.{LentOnTheWay}
 use Rattle.script_session.proofs.shared_end.drain_shared_all.Given as goal
 

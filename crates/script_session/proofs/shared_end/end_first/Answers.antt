@@ -3,15 +3,15 @@ use Rattle.board.specs.Entries.{caller_of}
 use Rattle.board.specs.Legal.{is_shut}
 use Rattle.board.specs.declared.entry.BoardEntry.{BoardEntry}
 use Rattle.transforms.specs.declared.ask.Ask.{Ask}
-use Rattle.turn_lock.specs.Meeting.{IsOwn}
+use Rattle.turn_lock.specs.PassLaws.{IsOwn}
 use Rattle.turn_lock.specs.Passes.{knows}
 use Rattle.turn_lock.specs.Turns.{Known}
 use Rattle.dialogues.specs.ScriptState.{PipelineState}
 use Rattle.recorded_calls.specs.Passes.{known}
 use Rattle.recorded_calls.specs.Pipelines.{Unchanged, IsShut}
-use Rattle.recorded_calls.specs.Sharing.{KnowsGathered, HaveEnded, Rejoined, Rejoins}
-use Rattle.script_session.specs.Gathering.{EndsLent, StopsFirst, AreToMove}
-use Rattle.script_session.specs.Lending.{HasLent}
+use Rattle.recorded_calls.specs.SharedCalls.{KnowsGathered, HaveEnded, Rejoined, Rejoins}
+use Rattle.script_session.specs.SharedEnd.{EndsLent, StopsFirst, AreToMove}
+use Rattle.script_session.specs.Loans.{HasLent}
 use Rattle.script_session.proofs.Joined.{to-move, still-ended, still-unshut, ends-first, stops-first, turn-ended}
 use Rattle.script_session.proofs.shared_end.end_first.Goals as goal
 

@@ -1,8 +1,8 @@
 use Rattle.std.proofs.Common.{ap, sym, subst, ◌∙◌}
 use Rattle.dialogues.specs.ScriptState.{PipelineState}
 use Rattle.recorded_calls.specs.Passes.{known}
-use Rattle.recorded_calls.specs.Sharing.{KnowsLent}
-use Rattle.script_session.specs.Lending.{HasLent}
+use Rattle.recorded_calls.specs.SharedCalls.{KnowsLent}
+use Rattle.script_session.specs.Loans.{HasLent}
 use Rattle.script_session.proofs.Joined.{frees-none, frees-free, frees-held, beside-sees}
 use Rattle.script_session.proofs.Moving.{fails}
 use Rattle.script_session.proofs.shared_end.release_shared.Goals as goal

@@ -1,9 +1,9 @@
 use Rattle.std.proofs.Common.{◌∙◌, [], refl}
-use Rattle.dialogues.specs.Piping.{lets_go, let_all_go}
+use Rattle.dialogues.specs.PipelineCommands.{lets_go, let_all_go}
 use Rattle.dialogues.specs.ScriptState.{Live}
 use Rattle.recorded_calls.specs.Passes.{known}
-use Rattle.script_session.specs.Gathering.{HasFreed}
-use Rattle.script_session.specs.Lending.{HasLent}
+use Rattle.script_session.specs.SharedEnd.{HasFreed}
+use Rattle.script_session.specs.Loans.{HasLent}
 use Rattle.script_session.proofs.Joined.{lent-sets-out, next-lent, lent-further, all-lent, goes-sees, beside-then}
 use Rattle.script_session.proofs.Leading.{let-more}
 use Rattle.script_session.proofs.Moving.{fails}

@@ -1,8 +1,8 @@
 use Rattle.std.proofs.Common.{◌≡◌, []}
-use Rattle.dialogues.specs.Piping.{let_all_go}
+use Rattle.dialogues.specs.PipelineCommands.{let_all_go}
 use Rattle.recorded_calls.specs.Passes.{known, lock_of}
-use Rattle.script_session.specs.Gathering.{HasFreed}
-use Rattle.script_session.specs.Lending.{HasLent}
+use Rattle.script_session.specs.SharedEnd.{HasFreed}
+use Rattle.script_session.specs.Loans.{HasLent}
 use Rattle.script_session.proofs.Joined.{LentOnTheWay}
 use Rattle.script_session.proofs.shared_end.release_shared_all.Given as goal
 

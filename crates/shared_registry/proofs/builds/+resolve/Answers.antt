@@ -6,10 +6,10 @@ use Rattle.alg_registry.specs.Made.{with_spec}
 use Rattle.shared_registry.proofs.Asking.{Exist}
 use Rattle.alg_names.specs.Name.{spelling}
 use Rattle.alg_registry.specs.Rows.{texts}
-use Rattle.templates.specs.Resolving.{weight}
+use Rattle.templates.specs.Resolution.{weight}
 use Rattle.templates.proofs.ChildLooks.{get_within}
 use Rattle.turn_lock.specs.Passes.{knows}
-use Rattle.shared_registry.specs.Building.{Looks, HasText}
+use Rattle.shared_registry.specs.Builds.{Looks, HasText}
 use Rattle.shared_registry.specs.Within.{ChildrenCome}
 use Rattle.shared_registry.proofs.Working.{works_still, works_none, works_on, within_works, resolves_so}
 use Rattle.shared_registry.proofs.Waiting.{began_on}

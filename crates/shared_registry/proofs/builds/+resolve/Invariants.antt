@@ -1,5 +1,5 @@
 use Rattle.std.proofs.Common.{◌≡◌, ◌+◌, ◌*◌, length}
-use Rattle.templates.specs.Resolving.{weight}
+use Rattle.templates.specs.Resolution.{weight}
 use Rattle.turn_lock.specs.Passes.{knows}
 use Rattle.shared_registry.specs.Passes.{IsPassOn}
 use Rattle.shared_registry.proofs.Children.{Asks}

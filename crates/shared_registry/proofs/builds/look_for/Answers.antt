@@ -1,7 +1,7 @@
 use Rattle.std.proofs.Common.{refl, ◌∙◌, subst, sym}
 use Rattle.turn_lock.specs.Passes.{knows}
 use Rattle.shared_registry.specs.Own.{MayLook}
-use Rattle.shared_registry.specs.Building.{Looks, HasText}
+use Rattle.shared_registry.specs.Builds.{Looks, HasText}
 use Rattle.shared_registry.proofs.Answering.{may_look, has_looked, looked_not}
 use Rattle.shared_registry.proofs.builds.look_for.Goals as goal
 

@@ -1,6 +1,6 @@
 use Rattle.std.proofs.Common.{ap, ◌∙◌, Ok, [], subst, sym}
 use Rattle.turn_lock.specs.Passes.{knows}
-use Rattle.shared_registry.specs.Building.{Ends}
+use Rattle.shared_registry.specs.Builds.{Ends}
 use Rattle.shared_registry.proofs.Waiting.{idles_still, began_on, still_waits, lacked, has_waited, has_ended}
 use Rattle.shared_registry.proofs.builds.wait_for.Goals as goal
 

@@ -2,7 +2,7 @@ use Rattle.std.proofs.Common.{ap, ◌∙◌, Ok, subst}
 use Rattle.std.specs.Prelude.{IfOk, false}
 use Rattle.alg_names.specs.Name.{spelling}
 use Rattle.turn_lock.specs.Passes.{knows}
-use Rattle.shared_registry.specs.Building.{Looks, HasText}
+use Rattle.shared_registry.specs.Builds.{Looks, HasText}
 use Rattle.shared_registry.proofs.Claiming.{begins, claimed_it, text_on}
 use Rattle.shared_registry.proofs.tests.claim_new.Goals as goal
 

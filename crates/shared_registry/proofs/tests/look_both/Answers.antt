@@ -3,7 +3,7 @@ use Rattle.std.specs.Prelude.{IfOk, false}
 use Rattle.alg_names.specs.Name.{spelling}
 use Rattle.turn_lock.specs.Passes.{knows}
 use Rattle.alg_registry.specs.declared.entry.RegEntry.TheVariants.{Look}
-use Rattle.shared_registry.specs.Building.{Looks, HasText}
+use Rattle.shared_registry.specs.Builds.{Looks, HasText}
 use Rattle.shared_registry.proofs.Clients.{was_answered, answered_on}
 use Rattle.shared_registry.proofs.tests.look_both.Goals as goal
 

@@ -1,7 +1,7 @@
 use Rattle.std.proofs.lemmas.Result.{err_from_is_err_and}
 use Rattle.std.proofs.Common.{◌≡◌, ℕ, ◌+◌, ◌*◌, ◌<◌, length, List, Ok, sym, ap, ◌∙◌, subst, arith, refl}
 use Rattle.alg_names.specs.Name.{spelling}
-use Rattle.templates.specs.Resolving.{weight, LooksCome}
+use Rattle.templates.specs.Resolution.{weight, LooksCome}
 use Rattle.templates.proofs.Shapes.{lighter, nested_child}
 use Rattle.templates.proofs.ChildLooks.{no_children, child_failed, child_made, child_above, child_entry, stopped}
 use Rattle.templates.proofs.Growth.{grows_on}

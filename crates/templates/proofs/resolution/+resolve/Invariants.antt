@@ -1,5 +1,5 @@
 use Rattle.std.proofs.Common.{◌≡◌, ◌+◌, ◌*◌, length, Ok}
-use Rattle.templates.specs.Resolving.{weight, LooksCome}
+use Rattle.templates.specs.Resolution.{weight, LooksCome}
 use Rattle.templates.proofs.resolution.+resolve.Given as goal
 
 abbrev pub decreases-resolve_within : goal.decreases-resolve_within

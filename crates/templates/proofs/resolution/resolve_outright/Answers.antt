@@ -1,6 +1,6 @@
 use Rattle.std.proofs.Common.{◌+◌, ap}
 use Rattle.std.specs.Prelude.{not}
-use Rattle.templates.specs.Resolving.{weight}
+use Rattle.templates.specs.Resolution.{weight}
 use Rattle.templates.proofs.TableLaws.{table-name}
 use Rattle.templates.proofs.Existing.{none_above, none_left}
 use Rattle.templates.proofs.resolution.resolve_outright.Goals as goal

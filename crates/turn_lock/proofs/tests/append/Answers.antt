@@ -4,7 +4,7 @@ use Rattle.std.specs.Result.{is_ok}
 use Rattle.turn_lock.specs.declared.tests.Entry.{Entry}
 use Rattle.turn_lock.specs.declared.tests.Log.{Log}
 use Rattle.turn_lock.specs.Passes.{knows}
-use Rattle.turn_lock.specs.Going.{meets, enters, leaves}
+use Rattle.turn_lock.specs.TurnLaws.{meets, enters, leaves}
 use Rattle.turn_lock.proofs.tests.append.Goals as goal
 
 either : {X F P Q A B : Type 0} (r : Result X F) (added : Bool) → added ≡ is_ok r → MatchResult r (λ _. A) (λ _. B) → (added ≡ true → A → P) → (added ≡ false → B → Q) → MatchResult r (λ _. P) (λ _. Q)

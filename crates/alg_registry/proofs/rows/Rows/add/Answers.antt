@@ -3,7 +3,7 @@ use Rattle.std.specs.List.{All, list_all}
 use Rattle.alg_registry.specs.declared.row.Row.{Row}
 use Rattle.alg_registry.specs.Rows.{listed_at, standing}
 use Rattle.alg_registry.specs.Calls.{new_row, listed_row_of}
-use Rattle.alg_registry.specs.Counting.{referred}
+use Rattle.alg_registry.specs.MarkCounts.{referred}
 use Rattle.alg_registry.specs.Held.{RowTable, held_from, listed_from}
 use Rattle.alg_registry.proofs.Restanding.{standing-twice}
 use Rattle.alg_registry.proofs.Tallies.{HasFewer}

@@ -9,7 +9,7 @@ use Rattle.board.specs.Stages.{MayServe, MayPass}
 use Rattle.board.proofs.KeptUsed.{used_same}
 use Rattle.board.proofs.Kept.{shut-same, IsAdded, none_beyond, same_places, same_owed}
 use Rattle.board.proofs.KeptBorn.{IsEmpty, born_kept, born_owes, born_step, few_born, no_job, no_request}
-use Rattle.board.proofs.LinesHold.{ready_others, ready_born, lines_others, lines_born}
+use Rattle.board.proofs.RunQueuesHold.{ready_others, ready_born, queues_others, queues_born}
 use Rattle.board.proofs.board_core.BoardCore.born.Goals as goal
 
 pub invariant_of-self-2 : goal.invariant_of-self-2
@@ -27,7 +27,7 @@ invariant_of-self-2 g c =
       omega (arith, c.push_reserved.ensures.len, c.push_reserved.ensures.capacity, c.in_ok-reserve_entries.ensures.ok),
       omega (arith, s.1, c.self.invariant.3),
       rw (c.push_reserved.ensures.items, c.in_ok-reserve_entries.ensures.items) (used_same g.W.Work.weight c.self.inside.used c.self.inside.log.items (Born c.args.caller born c.args.shape) refl c.self.invariant.4),
-      lines_born c.self.inside.pipes next c.self.inside.ready c.enter_board.new.ready born new c.self.invariant.5 added c.in_ok-enter_board.ensures.ready c.in_ok-enter_board.ensures.joined (λ m. no_job _ _ c.args.shape (subst (λ x. MayServe x) c.requires.stage.1 m)) c.new.ensures.items,
+      queues_born c.self.inside.pipes next c.self.inside.ready c.enter_board.new.ready born new c.self.invariant.5 added c.in_ok-enter_board.ensures.ready c.in_ok-enter_board.ensures.joined (λ m. no_job _ _ c.args.shape (subst (λ x. MayServe x) c.requires.stage.1 m)) c.new.ensures.items,
       ready_born IsChain HasRequest c.self.inside.pipes next c.self.inside.passing c.enter_board.new.passing born new c.self.invariant.6 added c.in_ok-enter_board.ensures.passing c.in_ok-enter_board.ensures.chain (λ m. no_request _ _ c.args.shape (subst (λ x. MayPass x) c.requires.stage.1 m)),
     )
 
@@ -49,7 +49,7 @@ invariant_of-self-in_err-enter_board g c =
       omega (arith, c.self.invariant.2, c.in_ok-reserve_entries.ensures.len, c.in_ok-reserve_entries.ensures.capacity),
       subst (λ n. c.self.inside.owed ≡ n + cond c.self.inside.shut 0 1) (sym owed) c.self.invariant.3,
       rw c.in_ok-reserve_entries.ensures.items c.self.invariant.4,
-      subst (λ pipes. AreReady pipes c.enter_board.new.ready) (sym same) (lines_others c.self.inside.pipes c.self.inside.ready c.enter_board.new.ready born none c.self.invariant.5 c.in_err-enter_board.ensures.ready),
+      subst (λ pipes. AreReady pipes c.enter_board.new.ready) (sym same) (queues_others c.self.inside.pipes c.self.inside.ready c.enter_board.new.ready born none c.self.invariant.5 c.in_err-enter_board.ensures.ready),
       subst (λ pipes. IsReadyFor IsChain HasRequest pipes c.enter_board.new.passing) (sym same) (ready_others IsChain HasRequest c.self.inside.pipes c.self.inside.passing c.enter_board.new.passing born none c.self.invariant.6 c.in_err-enter_board.ensures.passing),
     )
 

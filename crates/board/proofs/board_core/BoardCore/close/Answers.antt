@@ -7,7 +7,7 @@ use Rattle.board.specs.RunQueue.{IsChain, HasRequest}
 use Rattle.board.proofs.KeptUsed.{used_same}
 use Rattle.board.proofs.Kept.{shut-same, left_here}
 use Rattle.board.proofs.KeptCalls.{kept_open, close_step}
-use Rattle.board.proofs.LinesHold.{ready_left, lines_left}
+use Rattle.board.proofs.RunQueuesHold.{ready_left, queues_left}
 use Rattle.board.proofs.board_core.BoardCore.close.Goals as goal
 
 pub push_reserved-requires : goal.push_reserved-requires
@@ -49,7 +49,7 @@ invariant_of-self g c =
       omega (arith, s.1, c.self.invariant.2, c.self.invariant.3, c.push_reserved.ensures.len, c.push_reserved.ensures.capacity),
       omega (arith, s.1, c.self.invariant.3),
       rw c.push_reserved.ensures.items (used_same g.W.Work.weight c.self.inside.used c.self.inside.log.items (Close c.args.caller c.args.pipe) refl c.self.invariant.4),
-      lines_left c.self.inside.pipes c.remove.new.self c.self.inside.ready c.leave.new.self c.args.pipe there.0 c.self.invariant.5 left c.leave.ensures,
+      queues_left c.self.inside.pipes c.remove.new.self c.self.inside.ready c.leave.new.self c.args.pipe there.0 c.self.invariant.5 left c.leave.ensures,
       ready_left IsChain HasRequest c.self.inside.pipes c.remove.new.self c.self.inside.passing c.leave-2.new.self c.args.pipe there.0 c.self.invariant.6 left c.leave-2.ensures.others,
     )
 

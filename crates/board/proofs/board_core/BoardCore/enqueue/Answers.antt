@@ -5,12 +5,12 @@ use Rattle.board.specs.Allowance.{used_at}
 use Rattle.board.specs.Legal.{MaySubmit, IsOpenQueue}
 use Rattle.board.specs.Places.{places}
 use Rattle.board.proofs.Kept.{shut-same, loan_here, loan_some, set_here}
-use Rattle.board.proofs.KeptRoom.{serve_same, pass_same, notes_same, after_same, answer_same, line_same}
-use Rattle.board.proofs.KeptCalls.{kept_open, line_here, room_step}
+use Rattle.board.proofs.KeptRoom.{serve_same, pass_same, notes_same, after_same, answer_same, server_same}
+use Rattle.board.proofs.KeptCalls.{kept_open, server_here, room_step}
 use Rattle.board.specs.Pipelines.{is_accepted, work_after}
 use Rattle.board.proofs.KeptRequests.{work_same, few_submissions, few_entries, accepts_is, used_answer, accepted_here, enqueue_step}
-use Rattle.board.proofs.KeptLines.{serves, says, says_passing, passing_same, passing_told, enqueued_queue, enqueued_chain}
-use Rattle.board.proofs.LinesHold.{chain_same, room_admits, lines_kept, lines_same, lines_asked}
+use Rattle.board.proofs.KeptRunQueues.{serves, says, says_passing, passing_same, passing_told, enqueued_queue, enqueued_chain}
+use Rattle.board.proofs.RunQueuesHold.{chain_same, room_admits, queues_kept, queues_same, queues_asked}
 use Rattle.board.proofs.board_core.BoardCore.enqueue.Goals as goal
 
 pub unwrap-place-requires : goal.unwrap-place-requires
@@ -31,15 +31,15 @@ invariant_of-self-in_err-make_room g c =
       omega (arith, c.self.invariant.2, c.in_ok-reserve_entries.ensures.len, c.in_ok-reserve_entries.ensures.capacity),
       omega (arith, s.1, c.self.invariant.3),
       rw c.in_ok-reserve_entries.ensures.items (λ q. c.in_err-make_room.ensures.unspent q ∙ c.self.invariant.4 q),
-      lines_same c.self.inside.pipes next c.make_room.new.ready c.args.pipe c.unwrap-place.result.now c.make_room.new.place (lines_kept c.self.inside.pipes c.self.inside.ready c.make_room.new.ready c.self.invariant.5 c.in_err-make_room.ensures.lines) set (serve_same c.make_room.new.place.stage c.unwrap-place.result.now.stage c.in_err-make_room.ensures.same.stage) (room_admits c.unwrap-place.result.now c.make_room.new.place c.in_err-make_room.ensures.same),
+      queues_same c.self.inside.pipes next c.make_room.new.ready c.args.pipe c.unwrap-place.result.now c.make_room.new.place (queues_kept c.self.inside.pipes c.self.inside.ready c.make_room.new.ready c.self.invariant.5 c.in_err-make_room.ensures.run_queues) set (serve_same c.make_room.new.place.stage c.unwrap-place.result.now.stage c.in_err-make_room.ensures.same.stage) (room_admits c.unwrap-place.result.now c.make_room.new.place c.in_err-make_room.ensures.same),
       passing_same c.self.inside.pipes next c.self.inside.passing c.args.pipe c.unwrap-place.result.now c.make_room.new.place c.self.invariant.6 set (chain_same c.make_room.new.place.stage c.unwrap-place.result.now.stage c.in_err-make_room.ensures.same.stage) (pass_same c.make_room.new.place.stage c.unwrap-place.result.now.stage c.in_err-make_room.ensures.same.stage),
     )
 
-pub enqueue-answer-requires-clause-line : goal.enqueue-answer-requires-clause-line
-enqueue-answer-requires-clause-line g c =
+pub enqueue-answer-requires-clause-server : goal.enqueue-answer-requires-clause-server
+enqueue-answer-requires-clause-server g c =
     let open_ : IsOpenQueue (entries_of c.args.pipe c.self.inside.log.items) = subst (λ h. IsOpenQueue (entries_of c.args.pipe h)) (sym c.self.view_is) c.requires.pipe in
     let here = loan_here (places c.self.inside.pipes c.args.pipe) c.get_mut.result c.unwrap-place.result c.get_mut.ensures.value c.unwrap-place.ensures in
-    line_same c.make_room.new.place.stage c.unwrap-place.result.now.stage c.in_ok-make_room.ensures.same.stage ∙ line_here g.W.Work.asked g.W.Work.meaning c.self.inside.pipes c.self.inside.born c.self.inside.log.items c.args.pipe c.unwrap-place.result.now c.self.invariant.0 here open_.0
+    server_same c.make_room.new.place.stage c.unwrap-place.result.now.stage c.in_ok-make_room.ensures.same.stage ∙ server_here g.W.Work.asked g.W.Work.meaning c.self.inside.pipes c.self.inside.born c.self.inside.log.items c.args.pipe c.unwrap-place.result.now c.self.invariant.0 here open_.0
 
 pub enqueue-answer-requires-clause-few : goal.enqueue-answer-requires-clause-few
 enqueue-answer-requires-clause-few g c =
@@ -68,8 +68,8 @@ invariant_of-self-2 g c =
       omega (arith, more, few_entries c.unwrap-place.result.now.stage answer, c.push_reserved.ensures.len, c.push_reserved.ensures.capacity, c.in_ok-reserve_entries.ensures.ok),
       omega (arith, more, s.1, c.self.invariant.3),
       rw (c.push_reserved.ensures.items, c.in_ok-reserve_entries.ensures.items) (used_answer g.W.Work.weight c.self.inside.used c.make_room.new.used c.self.inside.log.items c.args.caller c.args.pipe c.in_ok-ask.field-0.ask c.args.backlog answer (g.W.Work.asked c.args.job) _ c.in_ok-ask.ensures.ask refl c.self.invariant.4 (rw (spent, used) at c.in_ok-make_room.ensures.spent)),
-      lines_asked c.self.inside.pipes next c.make_room.new.ready c.tell_lines.new.ready c.args.pipe c.unwrap-place.result.now c.enqueue-answer.new.self c.args.caller _ c.may_serve-had_job.result c.tell_lines.ensures.ready.0 (lines_kept c.self.inside.pipes c.self.inside.ready c.make_room.new.ready c.self.invariant.5 c.in_ok-make_room.ensures.lines) set c.in_ok-make_room.ensures.joined c.in_ok-make_room.ensures.in_line c.tell_lines.ensures.ready.2 noting (enqueued_queue c.unwrap-place.result.now.stage c.enqueue-answer.new.self.stage c.args.job answer e) (serves c.unwrap-place.result.now.stage c.may_serve-had_job.result c.may_serve-had_job.ensures) (says c.enqueue-answer.new.self.stage c.tell_lines.ensures.ready.0 c.tell_lines.ensures.ready.1),
-      passing_told c.self.inside.pipes next c.self.inside.passing c.args.pipe c.unwrap-place.result.now c.enqueue-answer.new.self c.self.invariant.6 set c.tell_lines.new.passing c.tell_lines.ensures.passing.0 c.tell_lines.ensures.passing.2 (enqueued_chain c.unwrap-place.result.now.stage c.enqueue-answer.new.self.stage c.args.job answer e) (says_passing c.enqueue-answer.new.self.stage c.tell_lines.ensures.passing.0 c.tell_lines.ensures.passing.1),
+      queues_asked c.self.inside.pipes next c.make_room.new.ready c.update_run_queues.new.ready c.args.pipe c.unwrap-place.result.now c.enqueue-answer.new.self c.args.caller _ c.may_serve-had_job.result c.update_run_queues.ensures.ready.0 (queues_kept c.self.inside.pipes c.self.inside.ready c.make_room.new.ready c.self.invariant.5 c.in_ok-make_room.ensures.run_queues) set c.in_ok-make_room.ensures.joined c.in_ok-make_room.ensures.queued c.update_run_queues.ensures.ready.2 noting (enqueued_queue c.unwrap-place.result.now.stage c.enqueue-answer.new.self.stage c.args.job answer e) (serves c.unwrap-place.result.now.stage c.may_serve-had_job.result c.may_serve-had_job.ensures) (says c.enqueue-answer.new.self.stage c.update_run_queues.ensures.ready.0 c.update_run_queues.ensures.ready.1),
+      passing_told c.self.inside.pipes next c.self.inside.passing c.args.pipe c.unwrap-place.result.now c.enqueue-answer.new.self c.self.invariant.6 set c.update_run_queues.new.passing c.update_run_queues.ensures.passing.0 c.update_run_queues.ensures.passing.2 (enqueued_chain c.unwrap-place.result.now.stage c.enqueue-answer.new.self.stage c.args.job answer e) (says_passing c.enqueue-answer.new.self.stage c.update_run_queues.ensures.passing.0 c.update_run_queues.ensures.passing.1),
     )
 
 pub returns-clause-answered : goal.returns-clause-answered

@@ -2,12 +2,12 @@ use Rattle.std.proofs.Common.{arith, ◌≡◌, ◌∷◌, ◌++◌, [], ap, Som
 use Rattle.board.specs.declared.entry.BoardEntry.{BoardEntry}
 use Rattle.board.specs.Stages.{is_queue}
 use Rattle.board.specs.Entries.{entries_of, takers, finished, has, meaning_at, submissions, finish_entry}
-use Rattle.board.proofs.KeptLines.{serves, says, passing_same, finished_chain}
+use Rattle.board.proofs.KeptRunQueues.{serves, says, passing_same, finished_chain}
 use Rattle.board.proofs.KeptUsed.{used_same}
 use Rattle.board.specs.Places.{places}
 use Rattle.board.proofs.Kept.{shut-same, loan_here, loan_some, set_here}
 use Rattle.board.proofs.KeptFinish.{ended_is_queue, job_ended, ended_made, ended_quiet, finish_may, finish_step, finish_entry_is, finish_passes, runs_here}
-use Rattle.board.proofs.LinesHold.{admits_same, lines_told}
+use Rattle.board.proofs.RunQueuesHold.{admits_same, queues_told}
 use Rattle.board.proofs.board_core.BoardCore.finish.Goals as goal
 
 pub unwrap-place-requires : goal.unwrap-place-requires
@@ -73,7 +73,7 @@ invariant_of-self g c =
       omega (arith, s.1, c.self.invariant.2, c.self.invariant.3, c.push_reserved.ensures.len, c.push_reserved.ensures.capacity),
       omega (arith, s.1, c.self.invariant.3),
       rw (c.push_reserved.ensures.items, made) (used_same g.W.Work.weight c.self.inside.used c.self.inside.log.items e q.1 c.self.invariant.4),
-      lines_told c.self.inside.pipes next c.self.inside.ready c.set_ready.new.self c.slip.inside.pipe pipe (record pipe { stage = c.finish.new.self }) c.may_serve-had_job.result c.may_serve-has_job.result c.self.invariant.5 set c.set_ready.ensures (admits_same pipe (record pipe { stage = c.finish.new.self }) refl refl refl (ap is_queue c.finish.ensures ∙ ended_is_queue pipe.stage c.slip.inside.number c.args.out)) (serves pipe.stage c.may_serve-had_job.result c.may_serve-had_job.ensures) (says c.finish.new.self c.may_serve-has_job.result c.may_serve-has_job.ensures),
+      queues_told c.self.inside.pipes next c.self.inside.ready c.set_ready.new.self c.slip.inside.pipe pipe (record pipe { stage = c.finish.new.self }) c.may_serve-had_job.result c.may_serve-has_job.result c.self.invariant.5 set c.set_ready.ensures (admits_same pipe (record pipe { stage = c.finish.new.self }) refl refl refl (ap is_queue c.finish.ensures ∙ ended_is_queue pipe.stage c.slip.inside.number c.args.out)) (serves pipe.stage c.may_serve-had_job.result c.may_serve-had_job.ensures) (says c.finish.new.self c.may_serve-has_job.result c.may_serve-has_job.ensures),
       passing_same c.self.inside.pipes next c.self.inside.passing c.slip.inside.pipe pipe (record pipe { stage = c.finish.new.self }) c.self.invariant.6 set (finished_chain pipe.stage c.finish.new.self c.slip.inside.number c.args.out c.finish.ensures) (finish_passes pipe.stage c.finish.new.self c.slip.inside.number c.args.out c.finish.ensures),
     )
 

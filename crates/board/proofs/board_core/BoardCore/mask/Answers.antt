@@ -10,8 +10,8 @@ use Rattle.board.specs.Places.{places}
 use Rattle.board.proofs.Kept.{shut-same, loan_here, loan_some, set_here, swap_step}
 use Rattle.board.specs.Legal.{MayManage, IsOpenPad}
 use Rattle.board.proofs.KeptCalls.{kept_open, pad_here, mask_step, lists_passes}
-use Rattle.board.proofs.KeptLines.{passing_same, lists_queue, lists_chain, lists_serves}
-use Rattle.board.proofs.LinesHold.{admits_same, lines_kept, lines_same, lines_masked}
+use Rattle.board.proofs.KeptRunQueues.{passing_same, lists_queue, lists_chain, lists_serves}
+use Rattle.board.proofs.RunQueuesHold.{admits_same, queues_kept, queues_same, queues_masked}
 use Rattle.board.proofs.board_core.BoardCore.mask.Goals as goal
 
 pub unwrap-place-requires : goal.unwrap-place-requires
@@ -39,7 +39,7 @@ invariant_of-self-in_err-remask g c =
       omega (arith, c.self.invariant.2, c.in_ok-reserve_entries.ensures.len, c.in_ok-reserve_entries.ensures.capacity),
       omega (arith, s.1, o, c.self.invariant.3),
       rw c.in_ok-reserve_entries.ensures.items c.self.invariant.4,
-      lines_same c.self.inside.pipes next c.join_workers.new.self c.args.pipe c.unwrap-place.result.now (record c.unwrap-place.result.now { stage = c.remask.new.self }) (lines_kept c.self.inside.pipes c.self.inside.ready c.join_workers.new.self c.self.invariant.5 c.in_ok-join_workers.ensures.kept) set (λ m. subst (λ x. MayServe x) c.in_err-remask.ensures.err m) (admits_same c.unwrap-place.result.now (record c.unwrap-place.result.now { stage = c.remask.new.self }) refl refl refl (ap is_queue c.in_err-remask.ensures.err)),
+      queues_same c.self.inside.pipes next c.join_workers.new.self c.args.pipe c.unwrap-place.result.now (record c.unwrap-place.result.now { stage = c.remask.new.self }) (queues_kept c.self.inside.pipes c.self.inside.ready c.join_workers.new.self c.self.invariant.5 c.in_ok-join_workers.ensures.kept) set (λ m. subst (λ x. MayServe x) c.in_err-remask.ensures.err m) (admits_same c.unwrap-place.result.now (record c.unwrap-place.result.now { stage = c.remask.new.self }) refl refl refl (ap is_queue c.in_err-remask.ensures.err)),
       passing_same c.self.inside.pipes next c.self.inside.passing c.args.pipe c.unwrap-place.result.now (record c.unwrap-place.result.now { stage = c.remask.new.self }) c.self.invariant.6 set (ap is_chain c.in_err-remask.ensures.err) (λ m. subst (λ x. MayPass x) c.in_err-remask.ensures.err m),
     )
 
@@ -58,7 +58,7 @@ invariant_of-self-2 g c =
       omega (arith, c.push_reserved.ensures.len, c.push_reserved.ensures.capacity, c.in_ok-reserve_entries.ensures.ok),
       omega (arith, s.1, c.self.invariant.3),
       rw (c.push_reserved.ensures.items, c.in_ok-reserve_entries.ensures.items) (used_same g.W.Work.weight c.self.inside.used c.self.inside.log.items (Mask c.args.caller c.args.pipe c.args.mask) refl c.self.invariant.4),
-      lines_masked c.self.inside.pipes next c.join_workers.new.self c.readmit.new.self c.args.pipe c.unwrap-place.result.now (record c.unwrap-place.result.now { mask = c.args.mask; stage = c.remask.new.self }) (lines_kept c.self.inside.pipes c.self.inside.ready c.join_workers.new.self c.self.invariant.5 c.in_ok-join_workers.ensures.kept) set c.readmit.ensures.queues c.readmit.ensures.own refl refl (lists_queue c.unwrap-place.result.now.stage c.remask.new.self c.max.result c.in_ok-remask.ensures.ok) (lists_serves c.unwrap-place.result.now.stage c.remask.new.self c.max.result c.in_ok-remask.ensures.ok) c.in_ok-join_workers.ensures.joined,
+      queues_masked c.self.inside.pipes next c.join_workers.new.self c.readmit.new.self c.args.pipe c.unwrap-place.result.now (record c.unwrap-place.result.now { mask = c.args.mask; stage = c.remask.new.self }) (queues_kept c.self.inside.pipes c.self.inside.ready c.join_workers.new.self c.self.invariant.5 c.in_ok-join_workers.ensures.kept) set c.readmit.ensures.queues c.readmit.ensures.own refl refl (lists_queue c.unwrap-place.result.now.stage c.remask.new.self c.max.result c.in_ok-remask.ensures.ok) (lists_serves c.unwrap-place.result.now.stage c.remask.new.self c.max.result c.in_ok-remask.ensures.ok) c.in_ok-join_workers.ensures.joined,
       passing_same c.self.inside.pipes next c.self.inside.passing c.args.pipe c.unwrap-place.result.now (record c.unwrap-place.result.now { mask = c.args.mask; stage = c.remask.new.self }) c.self.invariant.6 set (lists_chain c.unwrap-place.result.now.stage c.remask.new.self c.max.result c.in_ok-remask.ensures.ok) (lists_passes c.unwrap-place.result.now.stage c.remask.new.self c.max.result c.in_ok-remask.ensures.ok),
     )
 
@@ -72,6 +72,6 @@ invariant_of-self-in_err-join_workers g c = (
   omega (arith, c.self.invariant.2, c.in_ok-reserve_entries.ensures.len, c.in_ok-reserve_entries.ensures.capacity),
   c.self.invariant.3,
   rw c.in_ok-reserve_entries.ensures.items c.self.invariant.4,
-  lines_kept c.self.inside.pipes c.self.inside.ready c.join_workers.new.self c.self.invariant.5 c.in_err-join_workers.ensures.kept,
+  queues_kept c.self.inside.pipes c.self.inside.ready c.join_workers.new.self c.self.invariant.5 c.in_err-join_workers.ensures.kept,
   c.self.invariant.6,
 )

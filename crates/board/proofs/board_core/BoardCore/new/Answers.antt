@@ -2,7 +2,7 @@ use Rattle.std.proofs.Common.{rules}
 use Rattle.board.specs.RunQueue.{IsQueue, IsFor, IsChain, HasJob, HasRequest}
 use Rattle.board.specs.Places.{places}
 use Rattle.board.proofs.Kept.{empty_places}
-use Rattle.board.proofs.LinesHold.{ready_none}
+use Rattle.board.proofs.RunQueuesHold.{ready_none}
 use Rattle.board.proofs.board_core.BoardCore.new.Goals as goal
 
 pub invariant_of-result : goal.invariant_of-result

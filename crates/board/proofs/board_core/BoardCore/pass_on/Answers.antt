@@ -2,13 +2,13 @@ use Rattle.std.proofs.Common.{arith, ◌∙◌, subst, refl}
 use Rattle.board.specs.declared.entry.BoardEntry.{BoardEntry}
 use Rattle.board.specs.Entries.{NonePasses}
 use Rattle.board.specs.RunQueue.{HasRequest}
-use Rattle.board.proofs.KeptLines.{serves, says, says_passing, passing_told, passing_searched, none_passes, passed_is_queue, passed_is_chain}
+use Rattle.board.proofs.KeptRunQueues.{serves, says, says_passing, passing_told, passing_searched, none_passes, passed_is_queue, passed_is_chain}
 use Rattle.board.proofs.KeptUsed.{used_same}
 use Rattle.board.specs.declared.pipeline.Pipeline.{Pipeline}
 use Rattle.board.specs.Places.{places}
 use Rattle.board.proofs.Kept.{shut-same, loan_here, loan_some, one_here, set_here}
 use Rattle.board.proofs.KeptPassOn.{passed_entry, pass_step, pass_none, few_here, linked_here, apart_here, entry_made}
-use Rattle.board.proofs.LinesHold.{admits_same, lines_told}
+use Rattle.board.proofs.RunQueuesHold.{admits_same, queues_told}
 use Rattle.board.proofs.board_core.BoardCore.pass_on.Goals as goal
 
 pub returns-in_default-clause-passed : goal.returns-in_default-clause-passed
@@ -93,7 +93,7 @@ invariant_of-self-2 g c =
       omega (arith, s.1, c.self.invariant.2, c.self.invariant.3, c.push_reserved.ensures.len, c.push_reserved.ensures.capacity),
       omega (arith, s.1, c.self.invariant.3),
       rw (c.push_reserved.ensures.items, made) (used_same g.W.Work.weight c.self.inside.used c.self.inside.log.items e refl c.self.invariant.4),
-      lines_told c.self.inside.pipes next c.self.inside.ready c.set_ready.new.self c.in-Some.pipe pipe (record pipe { stage = c.pass_on.new.self }) c.may_serve-had_job.result c.may_serve-has_job.result c.self.invariant.5 set c.set_ready.ensures (admits_same pipe (record pipe { stage = c.pass_on.new.self }) refl refl refl (passed_is_queue pipe.stage c.pass_on.new.self c.in-Some-pass_on.ensures.2)) (serves pipe.stage c.may_serve-had_job.result c.may_serve-had_job.ensures) (says c.pass_on.new.self c.may_serve-has_job.result c.may_serve-has_job.ensures),
+      queues_told c.self.inside.pipes next c.self.inside.ready c.set_ready.new.self c.in-Some.pipe pipe (record pipe { stage = c.pass_on.new.self }) c.may_serve-had_job.result c.may_serve-has_job.result c.self.invariant.5 set c.set_ready.ensures (admits_same pipe (record pipe { stage = c.pass_on.new.self }) refl refl refl (passed_is_queue pipe.stage c.pass_on.new.self c.in-Some-pass_on.ensures.2)) (serves pipe.stage c.may_serve-had_job.result c.may_serve-had_job.ensures) (says c.pass_on.new.self c.may_serve-has_job.result c.may_serve-has_job.ensures),
       passing_told c.self.inside.pipes next c.next_request.new.passing c.in-Some.pipe pipe (record pipe { stage = c.pass_on.new.self }) (passing_searched c.self.inside.pipes c.self.inside.passing c.next_request.new.passing c.self.invariant.6 c.in-Some.ensures.kept) set c.set.new.self c.may_pass-may_pass.result c.set.ensures (passed_is_chain pipe.stage c.pass_on.new.self c.in-Some-pass_on.ensures.2) (says_passing c.pass_on.new.self c.may_pass-may_pass.result c.may_pass-may_pass.ensures),
     )
 

@@ -7,8 +7,8 @@ use Rattle.board.specs.Places.{places}
 use Rattle.board.proofs.Kept.{shut-same, loan_here, loan_some, set_here}
 use Rattle.board.specs.Legal.{MayManage, IsOpen}
 use Rattle.board.proofs.KeptCalls.{kept_open, same_item, poll_step, told_few, collected_serves, collected_passes}
-use Rattle.board.proofs.KeptLines.{passing_same}
-use Rattle.board.proofs.LinesHold.{collected_is_chain, collected_admits, lines_same}
+use Rattle.board.proofs.KeptRunQueues.{passing_same}
+use Rattle.board.proofs.RunQueuesHold.{collected_is_chain, collected_admits, queues_same}
 use Rattle.board.proofs.board_core.BoardCore.poll.Goals as goal
 
 pub index-place-requires : goal.index-place-requires
@@ -50,7 +50,7 @@ invariant_of-self-2 g c =
       omega (arith, c.push_reserved.ensures.len, c.push_reserved.ensures.capacity, c.in_ok-reserve_entries.ensures.ok),
       omega (arith, s.1, c.self.invariant.3),
       rw (c.push_reserved.ensures.items, c.in_ok-reserve_entries.ensures.items) (used_same g.W.Work.weight c.self.inside.used c.self.inside.log.items (Collect c.args.caller c.args.pipe c.collect-to.result) refl c.self.invariant.4),
-      lines_same c.self.inside.pipes next c.self.inside.ready c.args.pipe c.unwrap-place.result.now c.collect-to.new.self c.self.invariant.5 set (collected_serves c.unwrap-place.result.now c.collect-to.new.self c.collect-to.result c.collect-to.ensures.emptied) (collected_admits c.unwrap-place.result.now c.collect-to.new.self c.collect-to.result c.collect-to.ensures.emptied),
+      queues_same c.self.inside.pipes next c.self.inside.ready c.args.pipe c.unwrap-place.result.now c.collect-to.new.self c.self.invariant.5 set (collected_serves c.unwrap-place.result.now c.collect-to.new.self c.collect-to.result c.collect-to.ensures.emptied) (collected_admits c.unwrap-place.result.now c.collect-to.new.self c.collect-to.result c.collect-to.ensures.emptied),
       passing_same c.self.inside.pipes next c.self.inside.passing c.args.pipe c.unwrap-place.result.now c.collect-to.new.self c.self.invariant.6 set (collected_is_chain c.unwrap-place.result.now c.collect-to.new.self c.collect-to.result c.collect-to.ensures.emptied) (collected_passes c.unwrap-place.result.now c.collect-to.new.self c.collect-to.result c.collect-to.ensures.emptied),
     )
 

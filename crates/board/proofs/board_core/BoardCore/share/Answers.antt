@@ -6,8 +6,8 @@ use Rattle.board.specs.Places.{places}
 use Rattle.board.proofs.KeptUsed.{used_same}
 use Rattle.board.proofs.Kept.{shut-same, loan_here, loan_some, set_here}
 use Rattle.board.proofs.KeptCalls.{kept_open, share_step}
-use Rattle.board.proofs.KeptLines.{passing_same}
-use Rattle.board.proofs.LinesHold.{admits_same, lines_same}
+use Rattle.board.proofs.KeptRunQueues.{passing_same}
+use Rattle.board.proofs.RunQueuesHold.{admits_same, queues_same}
 use Rattle.board.proofs.board_core.BoardCore.share.Goals as goal
 
 pub unwrap-place-requires : goal.unwrap-place-requires
@@ -30,7 +30,7 @@ invariant_of-self-2 g c =
       omega (arith, c.push_reserved.ensures.len, c.push_reserved.ensures.capacity, c.in_ok-reserve_entries.ensures.ok),
       omega (arith, s.1, c.self.invariant.3),
       rw (c.push_reserved.ensures.items, c.in_ok-reserve_entries.ensures.items) (used_same g.W.Work.weight c.self.inside.used c.self.inside.log.items (Share c.args.caller c.args.pipe) refl c.self.invariant.4),
-      lines_same c.self.inside.pipes next c.self.inside.ready c.args.pipe pipe (record pipe { shared = true }) c.self.invariant.5 set (λ m. m) (admits_same pipe (record pipe { shared = true }) refl refl refl refl),
+      queues_same c.self.inside.pipes next c.self.inside.ready c.args.pipe pipe (record pipe { shared = true }) c.self.invariant.5 set (λ m. m) (admits_same pipe (record pipe { shared = true }) refl refl refl refl),
       passing_same c.self.inside.pipes next c.self.inside.passing c.args.pipe pipe (record pipe { shared = true }) c.self.invariant.6 set refl (λ m. m),
     )
 

@@ -9,8 +9,8 @@ use Rattle.board.proofs.Kept.{shut-same, loan_here, loan_some, set_here}
 use Rattle.board.proofs.KeptRoom.{serve_same, pass_same, notes_same, job_same, is_pad_same}
 use Rattle.board.proofs.KeptCalls.{kept_open, pad_here, room_step}
 use Rattle.board.proofs.KeptRequests.{few_submissions, accepted_here, mask_here, submit_step, job_passes}
-use Rattle.board.proofs.KeptLines.{serves, passing_same, submitted_queue, submitted_chain}
-use Rattle.board.proofs.LinesHold.{chain_same, room_admits, lines_kept, lines_same, lines_asked}
+use Rattle.board.proofs.KeptRunQueues.{serves, passing_same, submitted_queue, submitted_chain}
+use Rattle.board.proofs.RunQueuesHold.{chain_same, room_admits, queues_kept, queues_same, queues_asked}
 use Rattle.board.proofs.board_core.BoardCore.submit.Goals as goal
 
 pub unwrap-place-requires : goal.unwrap-place-requires
@@ -31,7 +31,7 @@ invariant_of-self-in_err-make_room g c =
       omega (arith, c.self.invariant.2, c.in_ok-reserve_entries.ensures.len, c.in_ok-reserve_entries.ensures.capacity),
       omega (arith, s.1, c.self.invariant.3),
       rw c.in_ok-reserve_entries.ensures.items (λ q. c.in_err-make_room.ensures.unspent q ∙ c.self.invariant.4 q),
-      lines_same c.self.inside.pipes next c.make_room.new.ready c.args.pipe c.unwrap-place.result.now c.make_room.new.place (lines_kept c.self.inside.pipes c.self.inside.ready c.make_room.new.ready c.self.invariant.5 c.in_err-make_room.ensures.lines) set (serve_same c.make_room.new.place.stage c.unwrap-place.result.now.stage c.in_err-make_room.ensures.same.stage) (room_admits c.unwrap-place.result.now c.make_room.new.place c.in_err-make_room.ensures.same),
+      queues_same c.self.inside.pipes next c.make_room.new.ready c.args.pipe c.unwrap-place.result.now c.make_room.new.place (queues_kept c.self.inside.pipes c.self.inside.ready c.make_room.new.ready c.self.invariant.5 c.in_err-make_room.ensures.run_queues) set (serve_same c.make_room.new.place.stage c.unwrap-place.result.now.stage c.in_err-make_room.ensures.same.stage) (room_admits c.unwrap-place.result.now c.make_room.new.place c.in_err-make_room.ensures.same),
       passing_same c.self.inside.pipes next c.self.inside.passing c.args.pipe c.unwrap-place.result.now c.make_room.new.place c.self.invariant.6 set (chain_same c.make_room.new.place.stage c.unwrap-place.result.now.stage c.in_err-make_room.ensures.same.stage) (pass_same c.make_room.new.place.stage c.unwrap-place.result.now.stage c.in_err-make_room.ensures.same.stage),
     )
 
@@ -67,7 +67,7 @@ invariant_of-self-2 g c =
       omega (arith, c.push_reserved.ensures.len, c.push_reserved.ensures.capacity, c.in_ok-reserve_entries.ensures.ok),
       omega (arith, s.1, c.self.invariant.3),
       rw (c.push_reserved.ensures.items, c.in_ok-reserve_entries.ensures.items) (used_more g.W.Work.weight c.self.inside.used c.make_room.new.used c.self.inside.log.items (Submit c.args.caller c.args.pipe c.submit-number.result c.in_ok-ask.field-0.ask) (g.W.Work.asked c.args.job) _ (ap Some c.in_ok-ask.ensures.ask) refl c.self.invariant.4 (rw used at c.in_ok-make_room.ensures.spent)),
-      lines_asked c.self.inside.pipes next c.make_room.new.ready c.set_ready.new.self c.args.pipe c.unwrap-place.result.now c.submit-number.new.self c.args.caller true c.may_serve-had_job.result true (lines_kept c.self.inside.pipes c.self.inside.ready c.make_room.new.ready c.self.invariant.5 c.in_ok-make_room.ensures.lines) set c.in_ok-make_room.ensures.joined c.in_ok-make_room.ensures.in_line c.set_ready.ensures noting (submitted_queue c.unwrap-place.result.now.stage c.submit-number.new.self.stage c.args.job e) (serves c.unwrap-place.result.now.stage c.may_serve-had_job.result c.may_serve-had_job.ensures) (λ m. refl),
+      queues_asked c.self.inside.pipes next c.make_room.new.ready c.set_ready.new.self c.args.pipe c.unwrap-place.result.now c.submit-number.new.self c.args.caller true c.may_serve-had_job.result true (queues_kept c.self.inside.pipes c.self.inside.ready c.make_room.new.ready c.self.invariant.5 c.in_ok-make_room.ensures.run_queues) set c.in_ok-make_room.ensures.joined c.in_ok-make_room.ensures.queued c.set_ready.ensures noting (submitted_queue c.unwrap-place.result.now.stage c.submit-number.new.self.stage c.args.job e) (serves c.unwrap-place.result.now.stage c.may_serve-had_job.result c.may_serve-had_job.ensures) (λ m. refl),
       passing_same c.self.inside.pipes next c.self.inside.passing c.args.pipe c.unwrap-place.result.now c.submit-number.new.self c.self.invariant.6 set (submitted_chain c.unwrap-place.result.now.stage c.submit-number.new.self.stage c.args.job e) (job_passes c.unwrap-place.result.now.stage c.submit-number.new.self.stage c.args.job e),
     )
 

@@ -3,14 +3,14 @@ use Rattle.board.specs.declared.entry.BoardEntry.{BoardEntry}
 use Rattle.board.specs.Entries.{NoneFor}
 use Rattle.board.specs.Stages.{is_queue}
 use Rattle.board.specs.RunQueue.{HasJob, Admits}
-use Rattle.board.proofs.KeptLines.{says, passing_same, taken_chain}
+use Rattle.board.proofs.KeptRunQueues.{says, passing_same, taken_chain}
 use Rattle.board.proofs.KeptUsed.{used_same}
 use Rattle.board.specs.declared.pipeline.Pipeline.{Pipeline}
 use Rattle.board.specs.Places.{places}
 use Rattle.board.proofs.Kept.{shut-same, loan_here, loan_some, one_here, set_here}
 use Rattle.board.proofs.KeptWork.{first_taken, first_made, first_is_queue, first_quiet, take_step, take_none, take_passes, take_entry_is}
 use Rattle.board.proofs.KeptPassOn.{apart_here}
-use Rattle.board.proofs.LinesHold.{admits_same, lines_told}
+use Rattle.board.proofs.RunQueuesHold.{admits_same, queues_told}
 use Rattle.board.proofs.board_core.BoardCore.take.Goals as goal
 
 pub unwrap-place-requires : goal.unwrap-place-requires
@@ -46,7 +46,7 @@ invariant_of-self-2 g c =
       omega (arith, s.1, c.self.invariant.2, c.self.invariant.3, c.push_reserved.ensures.len, c.push_reserved.ensures.capacity),
       omega (arith, s.1, c.self.invariant.3),
       rw (c.push_reserved.ensures.items, made) (used_same g.W.Work.weight c.self.inside.used c.self.inside.log.items e q.1 c.self.invariant.4),
-      lines_told c.self.inside.pipes next c.next_job.new.self c.set_ready.new.self c.in_ok-pipe.pipe pipe (record pipe { stage = c.take.new.self }) true c.may_serve-has_job.result c.in_ok-pipe.ensures.ready set c.set_ready.ensures (admits_same pipe (record pipe { stage = c.take.new.self }) refl refl refl (ap is_queue c.in_ok-number.ensures.3 ∙ first_is_queue pipe.stage _)) (λ h. m.0) (says c.take.new.self c.may_serve-has_job.result c.may_serve-has_job.ensures),
+      queues_told c.self.inside.pipes next c.next_job.new.self c.set_ready.new.self c.in_ok-pipe.pipe pipe (record pipe { stage = c.take.new.self }) true c.may_serve-has_job.result c.in_ok-pipe.ensures.ready set c.set_ready.ensures (admits_same pipe (record pipe { stage = c.take.new.self }) refl refl refl (ap is_queue c.in_ok-number.ensures.3 ∙ first_is_queue pipe.stage _)) (λ h. m.0) (says c.take.new.self c.may_serve-has_job.result c.may_serve-has_job.ensures),
       passing_same c.self.inside.pipes next c.self.inside.passing c.in_ok-pipe.pipe pipe (record pipe { stage = c.take.new.self }) c.self.invariant.6 set (taken_chain pipe.stage c.take.new.self _ c.in_ok-number.ensures.3) (take_passes pipe.stage c.take.new.self _ c.in_ok-number.ensures.3),
     )
 

@@ -1,4 +1,4 @@
-use Rattle.board.proofs.LinesHold.{keeps_on}
+use Rattle.board.proofs.RunQueuesHold.{keeps_on}
 use Rattle.board.proofs.run_queue.RunQueue.admit.Goals as goal
 
 pub returns-then-ready-clause-kept : goal.returns-then-ready-clause-kept

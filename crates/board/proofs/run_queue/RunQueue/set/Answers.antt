@@ -5,5 +5,5 @@ returns-then-ready c = record {
   others = λ p n. c.add.ensures.kept p;
   member = λ m. (c.add.ensures.kept c.args.pipe).0 m;
   stays = λ r s. (c.add.ensures.kept c.args.pipe).1 s;
-  in_line = λ s r w m. c.add.ensures.added m;
+  queued = λ s r w m. c.add.ensures.added m;
 }

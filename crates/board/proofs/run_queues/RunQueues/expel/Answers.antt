@@ -1,4 +1,4 @@
-use Rattle.board.proofs.LinesMade.{goes_other}
+use Rattle.board.proofs.RunQueuesMade.{goes_other}
 use Rattle.board.proofs.run_queues.RunQueues.expel.Goals as goal
 
 pub returns-then-not-admits : goal.returns-then-not-admits

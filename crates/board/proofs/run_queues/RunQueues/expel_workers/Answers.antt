@@ -1,4 +1,4 @@
-use Rattle.board.proofs.LinesMade.{goes_same, goes_on}
+use Rattle.board.proofs.RunQueuesMade.{goes_same, goes_on}
 use Rattle.board.proofs.run_queues.RunQueues.expel_workers.Goals as goal
 
 pub loop-before-init : goal.loop-before-init

@@ -1,7 +1,7 @@
 use Rattle.std.proofs.Common.{◌∙◌, refl}
 use Rattle.board.specs.RunQueues.{queue_for}
-use Rattle.board.proofs.LinesHold.{others_on}
-use Rattle.board.proofs.LinesMade.{same_but}
+use Rattle.board.proofs.RunQueuesHold.{others_on}
+use Rattle.board.proofs.RunQueuesMade.{same_but}
 use Rattle.board.proofs.run_queues.RunQueues.leave_workers.Goals as goal
 
 pub loop-before-init : goal.loop-before-init

@@ -1,5 +1,5 @@
-use Rattle.board.proofs.KeptLines.{says}
-use Rattle.board.proofs.LinesMade.{readmitted}
+use Rattle.board.proofs.KeptRunQueues.{says}
+use Rattle.board.proofs.RunQueuesMade.{readmitted}
 use Rattle.board.proofs.run_queues.RunQueues.readmit.Goals as goal
 
 pub returns-clause-own : goal.returns-clause-own

@@ -1,7 +1,7 @@
 use Rattle.std.proofs.Common.{◌≡◌, ◌+◌, ◌++◌, ◌∷◌, [], true, take, get_or, sym, subst}
 use Rattle.std.proofs.lemmas.List.{take_all, take_more}
 use Rattle.board.specs.Entries.{has}
-use Rattle.board.proofs.LinesMade.{own_same, own_less, own_on, one_more}
+use Rattle.board.proofs.RunQueuesMade.{own_same, own_less, own_on, one_more}
 use Rattle.board.proofs.run_queues.RunQueues.tell_each.Goals as goal
 
 pub loop-caller-init : goal.loop-caller-init

@@ -1,7 +1,7 @@
 use Rattle.std.proofs.Common.{◌≡◌, true, ◌⊎◌, ap, ◌∙◌}
 use Rattle.board.specs.Entries.{has, IsMasked}
 use Rattle.board.specs.RunQueue.{IsFor}
-use Rattle.board.proofs.LinesMade.{own_on, own_less, who_may}
+use Rattle.board.proofs.RunQueuesMade.{own_on, own_less, who_may}
 use Rattle.board.proofs.run_queues.RunQueues.tell_own.Goals as goal
 
 pub returns : goal.returns

@@ -1,5 +1,5 @@
 use Rattle.std.proofs.Common.{◌≡◌}
-use Rattle.board.proofs.LinesMade.{own_less}
+use Rattle.board.proofs.RunQueuesMade.{own_less}
 use Rattle.board.proofs.run_queues.RunQueues.tell_worker.Goals as goal
 
 pub returns-then-is_masked : goal.returns-then-is_masked

@@ -1,6 +1,6 @@
 use Rattle.std.proofs.Common.{arith, ◌≡◌, ◌≤◌, ◌+◌}
 use Rattle.board.specs.Entries.{IsMasked}
-use Rattle.board.proofs.LinesMade.{own_same, own_less, own_on, next_masked}
+use Rattle.board.proofs.RunQueuesMade.{own_same, own_less, own_on, next_masked}
 use Rattle.board.proofs.run_queues.RunQueues.tell_workers.Goals as goal
 
 pub loop-before-init : goal.loop-before-init

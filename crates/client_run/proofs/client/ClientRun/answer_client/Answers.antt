@@ -3,7 +3,7 @@ use Rattle.dialogues.specs.Dialogues.{Ends}
 use Rattle.dialogues.specs.Lines.{lines_dialogue}
 use Rattle.dialogues.specs.Widths.{widest}
 use Rattle.reply_text.specs.Written.{Written}
-use Rattle.script_session.specs.Running.{Replies}
+use Rattle.script_session.specs.Replies.{Replies}
 use Rattle.script_session.proofs.Probed.{stopped}
 use Rattle.script_text.specs.Script.{script_of}
 use Rattle.client_run.proofs.Answering.{stops-then}

@@ -3,7 +3,7 @@ use Rattle.kc_base.specs.Handed.{Handed}
 use Rattle.board.specs.Entries.{entries_of, told, delivered}
 use Rattle.transforms.specs.declared.request.Finished.{Finished}
 use Rattle.perdoaze_pipes.specs.Outcomes.{outcome}
-use Rattle.perdoaze_pipes.specs.Polling.{PipeOf}
+use Rattle.perdoaze_pipes.specs.Polls.{PipeOf}
 use Rattle.perdoaze_pipes.proofs.Delivering.{collect_gives, collect_left, collect_told, when_true}
 use Rattle.perdoaze_pipes.proofs.pipe.Pipe.drained.Goals as goal
 

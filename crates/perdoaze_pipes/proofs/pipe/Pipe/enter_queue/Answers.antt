@@ -1,6 +1,6 @@
 use Rattle.std.proofs.Common.{refl, subst, Ok}
 use Rattle.std.specs.Arc.{arc_value}
-use Rattle.perdoaze_pipes.specs.Submitting.{Decides}
+use Rattle.perdoaze_pipes.specs.Submission.{Decides}
 use Rattle.perdoaze_pipes.proofs.pipe.Pipe.enter_queue.Goals as goal
 
 pub returns-in-Ok-InProgress : goal.returns-in-Ok-InProgress

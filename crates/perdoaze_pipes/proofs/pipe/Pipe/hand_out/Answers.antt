@@ -1,5 +1,5 @@
 use Rattle.std.proofs.Common.{arith, subst, sym, ◌≢◌, ◌+◌, [], drop}
-use Rattle.perdoaze_pipes.specs.Polling.{PipeOf, IsLeft}
+use Rattle.perdoaze_pipes.specs.Polls.{PipeOf, IsLeft}
 use Rattle.perdoaze_pipes.proofs.Delivering.{first_left, left_next}
 use Rattle.perdoaze_pipes.proofs.pipe.Pipe.hand_out.Goals as goal
 

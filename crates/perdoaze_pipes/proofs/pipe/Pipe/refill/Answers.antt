@@ -1,5 +1,5 @@
 use Rattle.std.proofs.Common.{inr, sym, subst}
-use Rattle.perdoaze_pipes.specs.Polling.{PipeOf, IsCollected}
+use Rattle.perdoaze_pipes.specs.Polls.{PipeOf, IsCollected}
 use Rattle.perdoaze_pipes.proofs.Delivering.{refilled_so, collect_all}
 use Rattle.perdoaze_pipes.proofs.pipe.Pipe.refill.Goals as goal
 

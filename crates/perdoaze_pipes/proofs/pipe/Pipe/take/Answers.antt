@@ -1,7 +1,7 @@
 use Rattle.std.proofs.Common.{◌≤◌, drop, ap, subst, rules}
 use Rattle.std.specs.Arc.{arc_value}
-use Rattle.perdoaze_pipes.specs.Polling.{PipeOf}
-use Rattle.perdoaze_pipes.specs.Working.{Takes}
+use Rattle.perdoaze_pipes.specs.Polls.{PipeOf}
+use Rattle.perdoaze_pipes.specs.PipeWork.{Takes}
 use Rattle.perdoaze_pipes.specs.declared.answer.Answer.TheVariants as answer
 use Rattle.perdoaze_pipes.specs.declared.task.Task.TheVariants as tasks
 use Rattle.perdoaze_pipes.proofs.Delivering.{turn_left, takes_so}

@@ -1,7 +1,7 @@
 use Rattle.std.proofs.Common.{◌≡◌, ◌++◌, ◌∷◌, [], List, Option, sym, ◌∙◌, subst}
 use Rattle.board.specs.Entries.{finish_entry}
 use Rattle.perdoaze_pipes.specs.Orders.{IsOrder}
-use Rattle.perdoaze_pipes.specs.Running.{RunOf}
+use Rattle.perdoaze_pipes.specs.TaskRuns.{RunOf}
 use Rattle.perdoaze_pipes.proofs.Keeping.{finished_kept}
 use Rattle.perdoaze_pipes.proofs.requests.Requests.finish.Goals as goal
 

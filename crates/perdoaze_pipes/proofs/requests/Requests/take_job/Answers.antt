@@ -1,7 +1,7 @@
 use Rattle.std.proofs.Common.{◌≡◌, ◌-◌, None, Some, List, Option, get_or, set, sym, ◌∙◌, ap, subst}
 use Rattle.std.specs.Arc.{arc_value}
 use Rattle.perdoaze_pipes.specs.Orders.{OrderOf, IsOrder}
-use Rattle.perdoaze_pipes.specs.Running.{RunOf}
+use Rattle.perdoaze_pipes.specs.TaskRuns.{RunOf}
 use Rattle.perdoaze_pipes.proofs.Keeping.{taken_kept, taken_by, home_of, none_gives}
 use Rattle.perdoaze_pipes.proofs.requests.Requests.take_job.Goals as goal
 

@@ -2,14 +2,14 @@ use Rattle.std.proofs.Common.{◌≡◌, ◌+◌, length, Some, sym, ◌∙◌, 
 use Rattle.kc_base.specs.declared.callback_list.Callback.{Callback}
 use Rattle.board.specs.Alone.{PeersGone}
 use Rattle.board.specs.Entries.{entries_of}
-use Rattle.board.specs.Handing.{completions}
+use Rattle.board.specs.HandedOut.{completions}
 use Rattle.board.specs.Legal.{LegalBoard}
 use Rattle.board.specs.declared.board_core.BoardErr.TheVariants.{Memory}
 use Rattle.transforms.specs.declared.request.Finished.{Finished}
 use Rattle.dialogues.specs.ScriptState.{PipelineState}
 use Rattle.recorded_calls.specs.Passes.{known}
 use Rattle.recorded_calls.specs.Pipelines.{Unchanged}
-use Rattle.recorded_calls.specs.Sharing.{KnowsGathered, DrainedLent}
+use Rattle.recorded_calls.specs.SharedCalls.{KnowsGathered, DrainedLent}
 use Rattle.recorded_calls.proofs.BoardCalls.{is-open}
 use Rattle.recorded_calls.proofs.Gathers.{drain-gathers}
 use Rattle.recorded_calls.proofs.board_caller.BoardCaller.drain_gathered.Goals as goal

@@ -8,7 +8,7 @@ use Rattle.dialogues.specs.BoardCalls.{Enqueues, asked_by}
 use Rattle.dialogues.specs.ScriptState.{PipelineState}
 use Rattle.recorded_calls.specs.Passes.{known}
 use Rattle.recorded_calls.specs.Pipelines.{Unchanged, entered_asks}
-use Rattle.recorded_calls.specs.Sharing.{KnowsShared, Gave}
+use Rattle.recorded_calls.specs.SharedCalls.{KnowsShared, Gave}
 use Rattle.recorded_calls.proofs.BoardCalls.{enqueue-refused, not-unserved, by-allowance}
 use Rattle.recorded_calls.proofs.Sharings.{enqueue-gave}
 use Rattle.recorded_calls.proofs.board_caller.BoardCaller.enqueue_shared.Goals as goal

@@ -2,7 +2,7 @@ use Rattle.std.proofs.Common.{◌≡◌, Some, sym, refl, ◌∙◌, subst}
 use Rattle.board.specs.Alone.{PeersGone}
 use Rattle.dialogues.specs.ScriptState.{PipelineState}
 use Rattle.recorded_calls.specs.Passes.{known}
-use Rattle.recorded_calls.specs.Sharing.{KnowsLent, KnowsGathered, Beside}
+use Rattle.recorded_calls.specs.SharedCalls.{KnowsLent, KnowsGathered, Beside}
 use Rattle.recorded_calls.proofs.Gathers.{leaves-beside, gather-knows}
 use Rattle.recorded_calls.proofs.board_caller.BoardCaller.gather.Goals as goal
 

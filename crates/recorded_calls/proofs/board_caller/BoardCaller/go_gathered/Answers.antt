@@ -4,7 +4,7 @@ use Rattle.board.specs.declared.board_core.BoardErr.TheVariants.{Memory}
 use Rattle.dialogues.specs.BoardCalls.{Goes}
 use Rattle.dialogues.specs.ScriptState.{PipelineState}
 use Rattle.recorded_calls.specs.Passes.{known}
-use Rattle.recorded_calls.specs.Sharing.{KnowsLent, Beside, Gathers}
+use Rattle.recorded_calls.specs.SharedCalls.{KnowsLent, Beside, Gathers}
 use Rattle.recorded_calls.proofs.Gathers.{go-gathers}
 use Rattle.recorded_calls.proofs.board_caller.BoardCaller.go_gathered.Goals as goal
 

@@ -4,12 +4,12 @@ use Rattle.board.specs.Entries.{caller_of}
 use Rattle.board.specs.Legal.{LegalBoard}
 use Rattle.board.specs.declared.entry.BoardEntry.{BoardEntry}
 use Rattle.transforms.specs.declared.ask.Ask.{Ask}
-use Rattle.turn_lock.specs.Meeting.{AtTurn, Leaves, IsOwn}
+use Rattle.turn_lock.specs.PassLaws.{AtTurn, Leaves, IsOwn}
 use Rattle.turn_lock.specs.Turns.{Known}
 use Rattle.recorded_calls.specs.Passes.{known}
 use Rattle.recorded_calls.specs.Pipelines.{Unchanged}
 use Rattle.dialogues.specs.ScriptState.{PipelineState}
-use Rattle.recorded_calls.specs.Sharing.{KnowsLent, Rejoined, Rejoins, HaveEnded}
+use Rattle.recorded_calls.specs.SharedCalls.{KnowsLent, Rejoined, Rejoins, HaveEnded}
 use Rattle.recorded_calls.proofs.Boarding.{leaves-kept}
 use Rattle.recorded_calls.proofs.Gathers.{joined-gone, sees-own}
 use Rattle.recorded_calls.proofs.Lendings.{rejoins, lent-at}

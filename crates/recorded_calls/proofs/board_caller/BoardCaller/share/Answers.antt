@@ -3,7 +3,7 @@ use Rattle.board.specs.declared.board_core.BoardErr.TheVariants.{Memory}
 use Rattle.dialogues.specs.ScriptState.{PipelineState}
 use Rattle.recorded_calls.specs.Passes.{known}
 use Rattle.recorded_calls.specs.Pipelines.{KnowsPipe, Unchanged}
-use Rattle.recorded_calls.specs.Sharing.{Lends}
+use Rattle.recorded_calls.specs.SharedCalls.{Lends}
 use Rattle.recorded_calls.proofs.Lendings.{share-lends}
 use Rattle.recorded_calls.proofs.board_caller.BoardCaller.share.Goals as goal
 

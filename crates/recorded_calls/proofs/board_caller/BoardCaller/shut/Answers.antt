@@ -3,7 +3,7 @@ use Rattle.board.specs.Alone.{PeersGone}
 use Rattle.dialogues.specs.ScriptState.{PipelineState}
 use Rattle.recorded_calls.specs.Passes.{known}
 use Rattle.recorded_calls.specs.Pipelines.{IsShut}
-use Rattle.recorded_calls.specs.Sharing.{KnowsGathered}
+use Rattle.recorded_calls.specs.SharedCalls.{KnowsGathered}
 use Rattle.recorded_calls.proofs.BoardCalls.{shut-changed}
 use Rattle.recorded_calls.proofs.Gathers.{shut-ended, shut-gathered}
 use Rattle.recorded_calls.proofs.board_caller.BoardCaller.shut.Goals as goal

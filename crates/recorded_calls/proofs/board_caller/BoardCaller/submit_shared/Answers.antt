@@ -8,7 +8,7 @@ use Rattle.dialogues.specs.BoardCalls.{Submits, asked_by}
 use Rattle.dialogues.specs.ScriptState.{PipelineState}
 use Rattle.recorded_calls.specs.Passes.{known}
 use Rattle.recorded_calls.specs.Pipelines.{IsPad, Unchanged}
-use Rattle.recorded_calls.specs.Sharing.{KnowsShared, Gave}
+use Rattle.recorded_calls.specs.SharedCalls.{KnowsShared, Gave}
 use Rattle.recorded_calls.proofs.BoardCalls.{not-unserved, by-allowance}
 use Rattle.recorded_calls.proofs.Sharings.{submit-gave, submit-shared-refused}
 use Rattle.recorded_calls.proofs.board_caller.BoardCaller.submit_shared.Goals as goal

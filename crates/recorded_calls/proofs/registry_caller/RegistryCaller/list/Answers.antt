@@ -1,6 +1,6 @@
 use Rattle.std.proofs.Common.{◌≡◌, subst, sym, ◌∙◌, Some}
 use Rattle.dialogues.specs.RegistryCalls.{Lists}
-use Rattle.recorded_calls.specs.Asking.{IsCaller}
+use Rattle.recorded_calls.specs.RegistryCalls.{IsCaller}
 use Rattle.recorded_calls.specs.Passes.{known}
 use Rattle.recorded_calls.proofs.Asking.{list-asked, asks-if, asks-just}
 use Rattle.recorded_calls.proofs.registry_caller.RegistryCaller.list.Goals as goal

@@ -2,7 +2,7 @@ use Rattle.std.proofs.Common.{◌≡◌, sym, ◌∙◌, Some, subst, []}
 use Rattle.std.specs.Prelude.{slice_get, IsSome, IfOk}
 use Rattle.alg_registry.specs.Rows.{registered}
 use Rattle.turn_lock.specs.Passes.{knows}
-use Rattle.recorded_calls.specs.Asking.{IsCaller, Asks}
+use Rattle.recorded_calls.specs.RegistryCalls.{IsCaller, Asks}
 use Rattle.recorded_calls.specs.Passes.{known}
 use Rattle.recorded_calls.proofs.Asking.{origin-some, origin-there, origin-got, asks-at, no-call}
 use Rattle.recorded_calls.proofs.registry_caller.RegistryCaller.origin.Goals as goal

@@ -2,7 +2,7 @@ use Rattle.std.proofs.Common.{◌≡◌, sym, ◌∙◌, Some, subst, [], ◌∷
 use Rattle.alg_registry.specs.Legal.{HasReference}
 use Rattle.turn_lock.specs.Passes.{knows}
 use Rattle.dialogues.specs.RegistryCalls.{Puts}
-use Rattle.recorded_calls.specs.Asking.{IsCaller, HasReferenceOf}
+use Rattle.recorded_calls.specs.RegistryCalls.{IsCaller, HasReferenceOf}
 use Rattle.recorded_calls.specs.Passes.{known}
 use Rattle.recorded_calls.proofs.Asking.{put-asked, asks-at}
 use Rattle.recorded_calls.proofs.registry_caller.RegistryCaller.put_ref.Goals as goal

@@ -1,7 +1,7 @@
 use Rattle.std.proofs.Common.{◌≡◌, ◌∙◌, sym, ap, subst, Some, Ok}
 use Rattle.turn_lock.specs.Passes.{knows}
-use Rattle.shared_registry.specs.Building.{Works, Settled, WasAnswered}
-use Rattle.recorded_calls.specs.Looking.{Sought}
+use Rattle.shared_registry.specs.Builds.{Works, Settled, WasAnswered}
+use Rattle.recorded_calls.specs.Looks.{Sought}
 use Rattle.recorded_calls.specs.Passes.{known}
 use Rattle.recorded_calls.proofs.Looking.{resolved-ok, resolved-err, settles-entry, settles-fault}
 use Rattle.recorded_calls.proofs.registry_caller.RegistryCaller.settle.Goals as goal

@@ -1,6 +1,6 @@
 use Rattle.std.proofs.Common.{◌≡◌, subst, sym, ◌∙◌, Some, is_some}
 use Rattle.dialogues.specs.RegistryCalls.{Unlists}
-use Rattle.recorded_calls.specs.Asking.{IsCaller}
+use Rattle.recorded_calls.specs.RegistryCalls.{IsCaller}
 use Rattle.recorded_calls.specs.Passes.{known}
 use Rattle.recorded_calls.proofs.Asking.{unlist-asked, asks-if}
 use Rattle.recorded_calls.proofs.registry_caller.RegistryCaller.unlist.Goals as goal

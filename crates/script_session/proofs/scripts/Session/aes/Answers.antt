@@ -1,6 +1,6 @@
 use Rattle.std.proofs.Common.{ap, sym, ◌∙◌, refl}
 use Rattle.dialogues.specs.Dialogues.{says}
-use Rattle.dialogues.specs.Requesting.{aes_said}
+use Rattle.dialogues.specs.RequestCommands.{aes_said}
 use Rattle.script_session.proofs.Arms.{or-stops, answer-holds}
 use Rattle.script_session.proofs.Breaking.{stops-none}
 use Rattle.script_session.proofs.Moving.{fails}

@@ -1,7 +1,7 @@
 use Rattle.std.proofs.Common.{◌∙◌, ap, arith, length, sym, subst}
 use Rattle.std.proofs.lemmas.List.{with_items_is}
 use Rattle.dialogues.specs.Dialogues.{Ends, Posts}
-use Rattle.dialogues.specs.Piping.{end}
+use Rattle.dialogues.specs.PipelineCommands.{end}
 use Rattle.dialogues.specs.Questions.{Shut}
 use Rattle.recorded_calls.specs.Passes.{known}
 use Rattle.script_session.specs.States.{State, PipelinesMatch}

@@ -4,7 +4,7 @@ use Rattle.std.specs.BTreeMap.{get}
 use Rattle.std.specs.Ordering.{nat_cmp}
 use Rattle.board.proofs.Kept.{loan_here}
 use Rattle.script_session.proofs.Filed.{filed-set}
-use Rattle.script_session.specs.Saying.{collects}
+use Rattle.script_session.specs.ReplyText.{collects}
 use Rattle.script_session.proofs.Piped.{collect-free}
 use Rattle.dialogues.specs.Dialogues.{missing}
 use Rattle.dialogues.specs.ScriptState.{shared_of}

@@ -2,8 +2,8 @@ use Rattle.std.proofs.Common.{◌≡◌, ◌∙◌, true, false, [], ap, sym}
 use Rattle.script_text.specs.declared.commands.Command.TheVariants as command
 use Rattle.script_text.specs.declared.commands.Line.TheVariants.{Cmd}
 use Rattle.transforms.specs.declared.request.Dir.TheVariants as dir
-use Rattle.dialogues.specs.Requesting.{request_of}
-use Rattle.script_session.specs.Saying.{hands_out}
+use Rattle.dialogues.specs.RequestCommands.{request_of}
+use Rattle.script_session.specs.ReplyText.{hands_out}
 use Rattle.script_session.proofs.Commands.{command-arm, request-arm-as}
 use Rattle.script_session.proofs.scripts.Session.command.Goals as goal
 

@@ -3,11 +3,11 @@ use Rattle.std.specs.Prelude.{sum_by}
 use Rattle.std.proofs.lemmas.List.{with_items_is}
 use Rattle.board.specs.Allowance.{accepted_by}
 use Rattle.dialogues.specs.Dialogues.{Ends, Posts}
-use Rattle.dialogues.specs.Piping.{end}
+use Rattle.dialogues.specs.PipelineCommands.{end}
 use Rattle.dialogues.specs.Questions.{Shut}
 use Rattle.recorded_calls.specs.Passes.{known}
 use Rattle.transforms.specs.AskValue.{ask_size}
-use Rattle.script_session.specs.Saying.{SaysTold}
+use Rattle.script_session.specs.ReplyText.{SaysTold}
 use Rattle.script_session.specs.States.{State, PipelinesMatch}
 use Rattle.script_session.proofs.Ended.{end-arm, ends-shut, stops-here, release-stops, drain-stops}
 use Rattle.script_session.proofs.Said.{on-err, tells-nothing, told-first, told-after}

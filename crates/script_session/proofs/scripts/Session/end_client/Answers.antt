@@ -3,7 +3,7 @@ use Rattle.std.specs.Prelude.{sum_by}
 use Rattle.std.proofs.lemmas.List.{with_items_is}
 use Rattle.board.specs.Allowance.{accepted_by}
 use Rattle.dialogues.specs.Dialogues.{Ends}
-use Rattle.dialogues.specs.Piping.{end_beside}
+use Rattle.dialogues.specs.PipelineCommands.{end_beside}
 use Rattle.recorded_calls.specs.Passes.{known}
 use Rattle.transforms.specs.AskValue.{ask_size}
 use Rattle.script_session.specs.States.{State, PipelinesMatch}

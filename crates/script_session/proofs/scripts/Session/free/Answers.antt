@@ -1,8 +1,8 @@
 use Rattle.std.proofs.Common.{ap, sym, ◌∙◌, refl, subst}
 use Rattle.dialogues.specs.ScriptState.{Live}
-use Rattle.script_session.specs.Changing.{has_undelivered}
+use Rattle.script_session.specs.TransformChanges.{has_undelivered}
 use Rattle.script_session.specs.States.{State}
-use Rattle.recorded_calls.specs.Asking.{HasReferenceOf}
+use Rattle.recorded_calls.specs.RegistryCalls.{HasReferenceOf}
 use Rattle.recorded_calls.specs.Passes.{known}
 use Rattle.script_session.proofs.Frees.{free-arm}
 use Rattle.script_session.proofs.Standing.{may-give}

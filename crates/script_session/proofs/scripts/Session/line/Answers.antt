@@ -1,5 +1,5 @@
 use Rattle.std.proofs.Common.{◌∙◌, ap, sym, rules}
-use Rattle.dialogues.specs.Piping.{poll, drain}
+use Rattle.dialogues.specs.PipelineCommands.{poll, drain}
 use Rattle.script_text.specs.declared.commands.Command.TheVariants as command
 use Rattle.script_text.specs.declared.commands.Line.TheVariants as line
 use Rattle.script_session.proofs.Commands.{done-on, line-replies, line-ready, line-unwritten, line-uncalled, answers-reply}

@@ -1,5 +1,5 @@
 use Rattle.std.proofs.Common.{refl, ap, ◌∙◌, ◌++◌, ◌∷◌, [], map, length}
-use Rattle.dialogues.specs.Registering.{row_said}
+use Rattle.dialogues.specs.RegistryCommands.{row_said}
 use Rattle.reply_text.specs.declared.answers.Answer.TheVariants as said
 use Rattle.script_session.proofs.Arms.{listing-arm}
 use Rattle.script_session.proofs.Breaking.{or-breaks, unasked-arm}

@@ -1,8 +1,8 @@
 use Rattle.std.proofs.Common.{◌≡◌, subst, List, ◌++◌}
 use Rattle.std.specs.Prelude.{MatchResult}
 use Rattle.reply_text.specs.declared.answers.Answer.{Answer}
-use Rattle.recorded_calls.specs.Looking.{Builds}
-use Rattle.script_session.specs.Probing.{LooksFirst, LooksSome, SettlesThen}
+use Rattle.recorded_calls.specs.Looks.{Builds}
+use Rattle.script_session.specs.Probe.{LooksFirst, LooksSome, SettlesThen}
 use Rattle.script_session.proofs.Moving.{fails}
 use Rattle.script_session.proofs.Probed.{probe-arm, probe-some}
 use Rattle.script_session.proofs.scripts.Session.probe.Goals as goal

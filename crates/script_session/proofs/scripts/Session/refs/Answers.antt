@@ -1,6 +1,6 @@
 use Rattle.std.proofs.Common.{refl, ap, ◌∙◌, ◌++◌, ◌∷◌, []}
 use Rattle.dialogues.specs.Questions.{Count}
-use Rattle.dialogues.specs.Registering.{refs_said}
+use Rattle.dialogues.specs.RegistryCommands.{refs_said}
 use Rattle.dialogues.specs.RegistryCalls.{Counts}
 use Rattle.script_session.proofs.Arms.{asks-named, asking-arm}
 use Rattle.script_session.proofs.Breaking.{or-breaks, unasked-arm}

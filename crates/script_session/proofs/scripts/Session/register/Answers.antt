@@ -1,6 +1,6 @@
 use Rattle.std.proofs.Common.{refl, ap, sym, ◌∙◌, ◌++◌, ◌∷◌, []}
 use Rattle.dialogues.specs.Questions.{Enlist}
-use Rattle.dialogues.specs.Registering.{enlist_said}
+use Rattle.dialogues.specs.RegistryCommands.{enlist_said}
 use Rattle.script_session.proofs.KnownDrivers.{known-driver}
 use Rattle.script_session.proofs.Arms.{or-stops, answer-holds, asking-arm, register-unknown, register-high, register-asks}
 use Rattle.script_session.proofs.Breaking.{or-breaks, stops-none, unasked-arm}

@@ -4,7 +4,7 @@ use Rattle.dialogues.specs.Dialogues.{for_live}
 use Rattle.std.specs.Arc.{arc_value}
 use Rattle.dialogues.specs.BoardCalls.{asked_by}
 use Rattle.script_session.specs.Keyed.{IsJob, IsNotTaken}
-use Rattle.dialogues.specs.Requesting.{requests_under, requests_in}
+use Rattle.dialogues.specs.RequestCommands.{requests_under, requests_in}
 use Rattle.dialogues.specs.ScriptState.{Live}
 use Rattle.script_session.specs.States.{State}
 use Rattle.script_session.proofs.Arms.{or-stops, answer-holds}

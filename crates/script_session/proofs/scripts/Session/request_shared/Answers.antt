@@ -3,7 +3,7 @@ use Rattle.std.specs.Arc.{arc_value}
 use Rattle.kc_base.specs.declared.error_numbers.Errno.TheVariants.{ENOENT}
 use Rattle.dialogues.specs.BoardCalls.{asked_by}
 use Rattle.dialogues.specs.Dialogues.{for_live}
-use Rattle.dialogues.specs.Requesting.{requests_under, requests_in}
+use Rattle.dialogues.specs.RequestCommands.{requests_under, requests_in}
 use Rattle.dialogues.specs.ScriptState.{Live}
 use Rattle.script_session.specs.States.{State}
 use Rattle.script_session.proofs.Arms.{or-stops, answer-holds}

@@ -3,7 +3,7 @@ use Rattle.std.specs.List.{flat_map}
 use Rattle.dialogues.specs.Lines.{line_dialogue}
 use Rattle.dialogues.specs.Widths.{width_of}
 use Rattle.reply_text.specs.Answers.{text_of}
-use Rattle.script_session.specs.Performing.{PerformsBy}
+use Rattle.script_session.specs.PerformedDialogue.{PerformsBy}
 use Rattle.script_session.proofs.Breaking.{stops-held}
 use Rattle.script_session.proofs.Moving.{fails}
 use Rattle.script_session.proofs.scripts.Session.say_line.Goals as goal

@@ -1,6 +1,6 @@
 use Rattle.std.proofs.Common.{◌∙◌, [], ap, sym, refl, subst}
 use Rattle.std.specs.Prelude.{MatchResult}
-use Rattle.script_session.specs.Changing.{PerformsFor, StopsFor}
+use Rattle.script_session.specs.TransformChanges.{PerformsFor, StopsFor}
 use Rattle.script_session.specs.Settings.{sets}
 use Rattle.script_session.specs.States.{State, PadsHaveAListPerWorker}
 use Rattle.recorded_calls.specs.Passes.{known}

@@ -1,6 +1,6 @@
 use Rattle.std.proofs.Common.{refl, ap, ◌∙◌, ◌++◌, ◌∷◌, []}
 use Rattle.dialogues.specs.Questions.{Unlist}
-use Rattle.dialogues.specs.Registering.{unlist_said}
+use Rattle.dialogues.specs.RegistryCommands.{unlist_said}
 use Rattle.dialogues.specs.RegistryCalls.{Unlists}
 use Rattle.script_session.proofs.Arms.{asks-named, asking-arm}
 use Rattle.script_session.proofs.Breaking.{or-breaks, unasked-arm}

@@ -1,7 +1,7 @@
 use Rattle.std.proofs.Common.{◌≡◌, ◌-◌, ◌∙◌, ap, sym, subst, length, take, drop, arith}
 use Rattle.std.specs.Prelude.{Contains, MatchBool}
 use Rattle.std.proofs.lemmas.Slice.{between_to_end}
-use Rattle.script_text.specs.Pending.{CutterState}
+use Rattle.script_text.specs.LineCutter.{CutterState}
 use Rattle.script_text.proofs.PendingLemmas.{pending_feed}
 use Rattle.script_text.proofs.cutter.LineCutter.has_line.Goals as goal
 

@@ -1,7 +1,7 @@
 use Rattle.std.proofs.Common.{◌≡◌, ◌-◌, false, [], Some, None, length, take, drop, sym, ap, subst, ◌∙◌, arith}
 use Rattle.std.proofs.lemmas.Slice.{between_to_end}
 use Rattle.std.proofs.lemmas.List.{drop_all}
-use Rattle.script_text.specs.Pending.{CutterState, CutsLast, kept_in}
+use Rattle.script_text.specs.LineCutter.{CutterState, CutsLast, kept_in}
 use Rattle.script_text.proofs.KeptLemmas.{says_rest, some_rest, begins_at, nothing_left}
 use Rattle.script_text.proofs.PendingLemmas.{last_none, last_cut}
 use Rattle.script_text.proofs.cutter.LineCutter.last.Goals as goal

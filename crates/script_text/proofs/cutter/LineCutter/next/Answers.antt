@@ -1,7 +1,7 @@
 use Rattle.std.proofs.Common.{◌≡◌, false, ◌++◌, ◌∷◌, ◌+◌, ◌-◌, ℕ, List, [], Some, length, take, drop, Contains, sym, ap, subst, ◌∙◌, arith}
 use Rattle.std.proofs.lemmas.Slice.{between_to_end}
 use Rattle.std.proofs.lemmas.List.{drop-drop}
-use Rattle.script_text.specs.Pending.{CutterState, IsFirstFeed, CutsNext, kept_in}
+use Rattle.script_text.specs.LineCutter.{CutterState, IsFirstFeed, CutsNext, kept_in}
 use Rattle.script_text.proofs.KeptLemmas.{says_in, begins_at}
 use Rattle.script_text.proofs.PendingLemmas.{Says, nothing_ends, next_cut}
 use Rattle.script_text.proofs.cutter.LineCutter.next.Goals as goal

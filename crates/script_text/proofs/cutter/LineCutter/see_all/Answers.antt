@@ -1,5 +1,5 @@
 use Rattle.std.proofs.Common.{sym, ◌∙◌, ap, arith}
-use Rattle.script_text.specs.Pending.{all_seen}
+use Rattle.script_text.specs.LineCutter.{all_seen}
 use Rattle.script_text.proofs.KeptLemmas.{all_seen_short}
 use Rattle.script_text.proofs.cutter.LineCutter.see_all.Goals as goal
 

@@ -1,6 +1,6 @@
 use Rattle.std.proofs.Common.{arith, sym, subst, ◌∙◌}
 use Rattle.std.proofs.lemmas.Result.{err_from_is_err_and}
-use Rattle.script_text.specs.Pending.{CutsNext}
+use Rattle.script_text.specs.LineCutter.{CutsNext}
 use Rattle.script_text.proofs.Searching.{search_begins, search_finds, search_stops, search_ends, search_on, search_fails}
 use Rattle.script_text.proofs.line_reader.LineReader.next.Goals as goal
 

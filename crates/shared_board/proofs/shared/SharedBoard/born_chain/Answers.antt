@@ -4,7 +4,7 @@ use Rattle.board.specs.declared.entry.Shape.TheVariants as shape
 use Rattle.board.specs.declared.entry.BoardEntry.TheVariants as entry
 use Rattle.board.specs.declared.board_core.BoardErr.TheVariants as error
 use Rattle.board.specs.Legal.{pipelines, LegalBoard}
-use Rattle.turn_lock.specs.Going.{made_turn}
+use Rattle.turn_lock.specs.TurnLaws.{made_turn}
 use Rattle.board.specs.Entries.{caller_of}
 use Rattle.shared_board.proofs.Knowing.{itself}
 use Rattle.shared_board.proofs.shared.SharedBoard.born_chain.Goals as goal

@@ -3,7 +3,7 @@ use Rattle.std.specs.Prelude.{MatchOption}
 use Rattle.turn_lock.specs.Passes.{knows, turn_knows}
 use Rattle.board.specs.Entries.{entries_of, submissions, finish_entry, take_entry, NoneFor, caller_of}
 use Rattle.board.specs.Legal.{MayFinish, LegalBoard}
-use Rattle.turn_lock.specs.Going.{sure_turn, found_next}
+use Rattle.turn_lock.specs.TurnLaws.{sure_turn, found_next}
 use Rattle.shared_board.proofs.Knowing.{itself}
 use Rattle.shared_board.proofs.shared.SharedBoard.finish_and_take.Goals as goal
 

@@ -2,8 +2,8 @@ use Rattle.std.proofs.Common.{◌≡◌}
 use Rattle.turn_lock.specs.Passes.{knows}
 use Rattle.board.specs.declared.entry.BoardEntry.TheVariants as entry
 use Rattle.board.specs.declared.board_core.BoardErr.TheVariants as error
-use Rattle.turn_lock.specs.Going.{done_turn}
-use Rattle.board.specs.Shapes.{has_line}
+use Rattle.turn_lock.specs.TurnLaws.{done_turn}
+use Rattle.board.specs.Shapes.{has_queue}
 use Rattle.board.specs.Entries.{caller_of}
 use Rattle.board.specs.Legal.{LegalBoard}
 use Rattle.shared_board.proofs.Knowing.{itself}
@@ -17,7 +17,7 @@ hold-answer-requires-clause-caller g c κs within =
 pub hold-answer-requires-clause-pipe : goal.hold-answer-requires-clause-pipe
 hold-answer-requires-clause-pipe g c κs within =
     let s = c.turn-turn.ensures.holds.known c.args.pipe c.requires.caller in
-    let o = s.opened has_line c.requires.pipe in
+    let o = s.opened has_queue c.requires.pipe in
     rw c.get.ensures.value o
 
 pub returns-clause-turn : goal.returns-clause-turn

@@ -1,6 +1,6 @@
 use Rattle.std.proofs.Common.{refl, false}
 use Rattle.turn_lock.specs.Passes.{knows}
-use Rattle.turn_lock.specs.Going.{leaves}
+use Rattle.turn_lock.specs.TurnLaws.{leaves}
 use Rattle.board.specs.Entries.{caller_of}
 use Rattle.board.specs.Legal.{LegalBoard}
 use Rattle.shared_board.proofs.Knowing.{itself}

@@ -2,7 +2,7 @@ use Rattle.std.proofs.Common.{◌≡◌, ◌^◌, ◌<◌, subst, sym, ◌∙◌
 use Rattle.turn_lock.specs.Passes.{knows, turn_value}
 use Rattle.board.specs.declared.entry.BoardEntry.TheVariants as entry
 use Rattle.board.specs.declared.board_core.BoardErr.TheVariants as error
-use Rattle.turn_lock.specs.Going.{done_turn}
+use Rattle.turn_lock.specs.TurnLaws.{done_turn}
 use Rattle.board.specs.Shapes.{is_pad}
 use Rattle.board.specs.Entries.{entries_of, caller_of}
 use Rattle.board.specs.Legal.{LegalBoard}

@@ -3,7 +3,7 @@ use Rattle.turn_lock.specs.Passes.{knows}
 use Rattle.board.specs.declared.entry.BoardEntry.TheVariants as entry
 use Rattle.board.specs.declared.board_core.BoardErr.TheVariants as error
 use Rattle.board.specs.Entries.{entries_of, told, delivered, caller_of}
-use Rattle.turn_lock.specs.Going.{handed_turn}
+use Rattle.turn_lock.specs.TurnLaws.{handed_turn}
 use Rattle.board.specs.Legal.{LegalBoard}
 use Rattle.shared_board.proofs.Knowing.{itself}
 use Rattle.shared_board.proofs.shared.SharedBoard.poll.Goals as goal

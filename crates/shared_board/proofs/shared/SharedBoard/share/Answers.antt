@@ -2,7 +2,7 @@ use Rattle.std.proofs.Common.{◌≡◌}
 use Rattle.turn_lock.specs.Passes.{knows}
 use Rattle.board.specs.declared.entry.BoardEntry.TheVariants as entry
 use Rattle.board.specs.declared.board_core.BoardErr.TheVariants as error
-use Rattle.turn_lock.specs.Going.{done_turn}
+use Rattle.turn_lock.specs.TurnLaws.{done_turn}
 use Rattle.board.specs.Entries.{caller_of}
 use Rattle.board.specs.Legal.{LegalBoard}
 use Rattle.shared_board.proofs.Knowing.{itself}

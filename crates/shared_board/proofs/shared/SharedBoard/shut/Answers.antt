@@ -1,6 +1,6 @@
 use Rattle.turn_lock.specs.Passes.{knows}
 use Rattle.board.specs.declared.entry.BoardEntry.TheVariants as entry
-use Rattle.turn_lock.specs.Going.{sure_turn}
+use Rattle.turn_lock.specs.TurnLaws.{sure_turn}
 use Rattle.board.specs.Entries.{caller_of}
 use Rattle.board.specs.Legal.{LegalBoard}
 use Rattle.shared_board.proofs.Knowing.{itself}

@@ -3,7 +3,7 @@ use Rattle.std.specs.Prelude.{MatchOption}
 use Rattle.turn_lock.specs.Passes.{knows}
 use Rattle.board.specs.Entries.{entries_of, submissions, take_entry, NoneFor, caller_of}
 use Rattle.board.specs.Legal.{MayFinish, LegalBoard}
-use Rattle.turn_lock.specs.Going.{found_turn}
+use Rattle.turn_lock.specs.TurnLaws.{found_turn}
 use Rattle.shared_board.proofs.Knowing.{itself}
 use Rattle.shared_board.proofs.shared.SharedBoard.take.Goals as goal
 

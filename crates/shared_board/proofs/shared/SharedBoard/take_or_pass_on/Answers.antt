@@ -3,7 +3,7 @@ use Rattle.turn_lock.specs.Passes.{knows}
 use Rattle.board.specs.Shapes.{is_chain}
 use Rattle.board.specs.Entries.{entries_of, submissions, take_entry, pass_entry, NoneFor, NonePasses, caller_of}
 use Rattle.board.specs.Legal.{Is, MayFinish, LegalBoard}
-use Rattle.turn_lock.specs.Going.{found_turn}
+use Rattle.turn_lock.specs.TurnLaws.{found_turn}
 use Rattle.shared_board.proofs.Knowing.{itself}
 use Rattle.shared_board.proofs.Refusing.{passed_after}
 use Rattle.shared_board.proofs.shared.SharedBoard.take_or_pass_on.Goals as goal

@@ -2,7 +2,7 @@ use Rattle.std.proofs.Common.{sym, subst}
 use Rattle.turn_lock.specs.Turns.{Shows}
 use Rattle.turn_lock.specs.Passes.{knows}
 use Rattle.board.specs.Entries.{caller_of}
-use Rattle.turn_lock.specs.Going.{meets}
+use Rattle.turn_lock.specs.TurnLaws.{meets}
 use Rattle.board.specs.Legal.{LegalBoard}
 use Rattle.shared_board.proofs.shared.SharedBoard.turn.Goals as goal
 

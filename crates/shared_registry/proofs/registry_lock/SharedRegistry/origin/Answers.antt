@@ -2,7 +2,7 @@ use Rattle.std.proofs.Common.{false, refl, sym, ap, ◌∙◌, subst}
 use Rattle.alg_registry.specs.Rows.{caller_of}
 use Rattle.turn_lock.specs.Passes.{knows}
 use Rattle.turn_lock.specs.Turns.{Shows, sees}
-use Rattle.turn_lock.specs.Going.{meets}
+use Rattle.turn_lock.specs.TurnLaws.{meets}
 use Rattle.shared_registry.specs.Faithful.{IsFaithful}
 use Rattle.shared_registry.proofs.Turning.{gave_none, sound_left}
 use Rattle.shared_registry.proofs.registry_lock.SharedRegistry.origin.Goals as goal

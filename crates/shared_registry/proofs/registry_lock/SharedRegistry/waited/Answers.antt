@@ -2,7 +2,7 @@ use Rattle.std.proofs.Common.{refl, sym, ap, ◌∙◌, subst}
 use Rattle.alg_registry.specs.Rows.{caller_of}
 use Rattle.turn_lock.specs.Passes.{knows}
 use Rattle.turn_lock.specs.Turns.{Shows, sees}
-use Rattle.turn_lock.specs.Going.{meets}
+use Rattle.turn_lock.specs.TurnLaws.{meets}
 use Rattle.shared_registry.specs.Faithful.{IsFaithful}
 use Rattle.alg_registry.specs.declared.entry.RegEntry.TheVariants.{Waited}
 use Rattle.alg_registry.specs.Legal.{ended_as}

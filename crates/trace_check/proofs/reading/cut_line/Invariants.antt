@@ -1,6 +1,0 @@
-use Rattle.std.proofs.Common.{take}
-use Rattle.trace_check.specs.Reading.{IsOneLine}
-use Rattle.trace_check.proofs.reading.cut_line.Given as goal
-
-abbrev pub invariant-loop-place : goal.invariant-loop-place
-invariant-loop-place l = IsOneLine (take l.place l.text)
