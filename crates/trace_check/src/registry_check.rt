@@ -24,7 +24,8 @@ fn add_opened(
     driver: &[u8],
     kind: Kind,
 ) -> Result<(), AllocError>
-    ensures { OnOk result (map row_of entries.new.items ≡ marked [] (map row_of entries.old.items ++ new_row (opened name.now driver.now kind) ∷ [])) }
+    ensures { OnOk result (map row_of entries.new.items
+        ≡ marked [] (map row_of entries.old.items ++ new_row (opened name.now driver.now kind) ∷ [])) }
 {
     let spec = plain_spec(alloc, name, driver, kind, 100)?;
     add_entry(alloc, entries, &spec)
@@ -36,7 +37,13 @@ fn opening_entries(alloc: Global) -> Result<Vec<Entry>, AllocError>
 {
     let mut entries = Vec::new(alloc);
     add_opened(alloc, &mut entries, b"aes", b"aes-generic", Kind::Cipher)?;
-    add_opened(alloc, &mut entries, b"sha256", b"sha256-generic", Kind::Hash)?;
+    add_opened(
+        alloc,
+        &mut entries,
+        b"sha256",
+        b"sha256-generic",
+        Kind::Hash,
+    )?;
     add_opened(alloc, &mut entries, b"ghash", b"ghash-generic", Kind::Ghash)?;
     Ok(entries)
 }
