@@ -24,7 +24,8 @@ fn add_opened(
     driver: &[u8],
     kind: Kind,
 ) -> Result<(), AllocError>
-    ensures { OnOk result (map row_of entries.new.items ≡ marked [] (map row_of entries.old.items ++ new_row (opened name.now driver.now kind) ∷ [])) }
+    ensures { OnOk result (map row_of entries.new.items
+        ≡ marked [] (map row_of entries.old.items ++ new_row (opened name.now driver.now kind) ∷ [])) }
 {
     let spec = plain_spec(alloc, name, driver, kind, 100)?;
     add_entry(alloc, entries, &spec)
