@@ -21,8 +21,8 @@ queue_no_pad (Some (maker, shape.Pad lists)) h g = cc
 queue_no_pad (Some (maker, shape.Queue max)) h g = cc
 queue_no_pad (Some (maker, shape.Chain max lists)) h g = cc
 
-queue_no_pad : (b : Option (ℕ × Shape)) → has_queue_born b ≡ true → pad_born b ≡ true → ⊥
-queue_no_pad b h g = not_both (has_queue_born b) h (pad_no_queue b g)
+no_pad_with_queue : (b : Option (ℕ × Shape)) → has_queue_born b ≡ true → pad_born b ≡ true → ⊥
+no_pad_with_queue b h g = not_both (has_queue_born b) h (pad_no_queue b g)
 
 -- a pad tells the completions up to its front
 abbrev TellsFront : {A : Type 0} → List (BoardEntry A) → Type 0
@@ -56,8 +56,8 @@ pad_step es (Submit caller pipe number ask) given v r o =
     pad_quiet es (Submit caller pipe number ask) o (born_some is_pad (birth es) r.1.0) refl (front-accepted es (Submit caller pipe number ask) (arc_value ask) v.numbered refl refl)
 pad_step es (Take caller pipe number) given v r o = pad_quiet es (Take caller pipe number) o (born_some has_lists (birth es) r.0.0) refl (front-same es (Take caller pipe number) refl refl)
 pad_step es (Finish caller pipe number) given v r o = pad_finish es caller pipe number o (born_some has_lists (birth es) r.0)
-pad_step es (Enq caller pipe ask backlog answer) given v r o = no_pad es (Enq caller pipe ask backlog answer) (born_some has_queue (birth es) r.1.0) (queue_no_pad (birth es) r.1.0)
-pad_step es (Deq caller pipe number starting) given v r o = no_pad es (Deq caller pipe number starting) (born_some has_queue (birth es) r.0.0) (queue_no_pad (birth es) r.0.0)
+pad_step es (Enq caller pipe ask backlog answer) given v r o = no_pad es (Enq caller pipe ask backlog answer) (born_some has_queue (birth es) r.1.0) (no_pad_with_queue (birth es) r.1.0)
+pad_step es (Deq caller pipe number starting) given v r o = no_pad es (Deq caller pipe number starting) (born_some has_queue (birth es) r.0.0) (no_pad_with_queue (birth es) r.0.0)
 pad_step es (Done caller pipe number) given v r o = no_pad es (Done caller pipe number) (born_some is_serial (birth es) r.0) (queue_no_pad (birth es) r.0)
 pad_step es (Hold caller pipe) given v r o = pad_quiet es (Hold caller pipe) o (maker_some (birth es) caller r.0.1) refl (front-same es (Hold caller pipe) refl refl)
 pad_step es (Go caller pipe) given v r o = pad_quiet es (Go caller pipe) o (maker_some (birth es) caller r.0.1) refl (front-same es (Go caller pipe) refl refl)

@@ -410,9 +410,9 @@ module _ {J O : Type 0} (pipes : Pipes J O) where
     own = r.own;
   }
 
-  pub queues_searched : (run_queues after : QueuesState) (caller : ℕ) (queue new : QueueState) → AreReady (places pipes) run_queues → IsQueueSet caller run_queues.own after.own queue new → KeepsSuch (HasJobFor caller) (places pipes) run_queues.queues after.queues → KeepsSuch (HasJobFor caller) (places pipes) queue new
+  pub run_queues_searched : (run_queues after : QueuesState) (caller : ℕ) (queue new : QueueState) → AreReady (places pipes) run_queues → IsQueueSet caller run_queues.own after.own queue new → KeepsSuch (HasJobFor caller) (places pipes) run_queues.queues after.queues → KeepsSuch (HasJobFor caller) (places pipes) queue new
       → AreReady (places pipes) after
-  queues_searched run_queues after caller queue new r set k l = record {
+  run_queues_searched run_queues after caller queue new r set k l = record {
     queues = queues_searched caller run_queues.queues after.queues r.queues k;
     own = λ c.
         set_made (λ n queue after. IsReadyFor (IsFor n) HasJob (places pipes) queue → IsReadyFor (IsFor n) HasJob (places pipes) after) run_queues.own after.own caller queue new set (λ n d queue s. s)

@@ -19,7 +19,7 @@ loop-number-preserved g c =
       ap (λ (p : Pad _ _). p.lists) e.2 ∙ i.1,
       ap (λ (p : Pad _ _). p.waiting) e.2 ∙ i.2,
       ap (λ (p : Pad _ _). p.spare) e.2 ∙ i.3,
-      ap (λ (s : Server _ _). s.server) d ∙ i.4,
+      ap (λ (s : Server _ _). s.queue) d ∙ i.4,
       ap (λ (s : Server _ _). s.held) d ∙ i.5,
       ap (λ (s : Server _ _). s.busy) d ∙ i.6,
       ap (λ (s : Server _ _). s.spare) d ∙ i.7,

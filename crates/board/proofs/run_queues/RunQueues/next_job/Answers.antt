@@ -4,7 +4,7 @@ use Rattle.board.specs.declared.run_queues.CallerQueue.{CallerQueue}
 use Rattle.board.specs.Places.{places}
 use Rattle.board.specs.RunQueues.{QueuesState, CallerQueues, AreReady}
 use Rattle.board.proofs.CallersQueues.{first_written, queue_written, other_queue}
-use Rattle.board.proofs.RunQueuesHold.{queue_searched, queues_searched, found_queue, found_queue_first}
+use Rattle.board.proofs.RunQueuesHold.{queue_searched, run_queues_searched, found_queue, found_queue_first}
 use Rattle.board.proofs.run_queues.RunQueues.next_job.Goals as goal
 
 pub returns-then-place-len-clause-ready : goal.returns-then-place-len-clause-ready
@@ -16,7 +16,7 @@ returns-then-place-len-clause-ready g c =
     let set = first_written own c.args.caller d new (omega (arith, c.if-place-len.true, c.len.ensures, c.self.inside.first.ok.0)) c.index_mut.ensures.value in
     let all : QueuesState = record { queues = c.self.inside.queues; own = own } in
     let r = subst (λ run_queues. AreReady (places c.args.pipes.now) run_queues) (sym c.self.view_is) c.requires.ready in
-    queues_searched c.args.pipes.now all (record { queues = c.next_of.new.queues; own = after }) c.args.caller d.queue new.queue r set c.next_of.ensures.queues c.next_of.ensures.own
+    run_queues_searched c.args.pipes.now all (record { queues = c.next_of.new.queues; own = after }) c.args.caller d.queue new.queue r set c.next_of.ensures.queues c.next_of.ensures.own
 
 pub returns-then-place-len-clause-next : goal.returns-then-place-len-clause-next
 returns-then-place-len-clause-next g c =
@@ -40,7 +40,7 @@ returns-in-Some-clause-ready g c =
     let set = queue_written first own next c.args.caller (omega (arith, c.if-place-len.false, c.len.ensures, c.self.inside.first.ok.0)) c.in-Some.own.now new (sym c.in-Some.ensures.value) (c.get_mut.follows.holds new) in
     let all : QueuesState = record { queues = c.self.inside.queues; own = run_queues } in
     let r = subst (λ run_queues. AreReady (places c.args.pipes.now) run_queues) (sym c.self.view_is) c.requires.ready in
-    queues_searched c.args.pipes.now all (record { queues = c.next_of-in-Some.new.queues; own = after }) c.args.caller c.in-Some.own.now.queue new.queue r set c.next_of-in-Some.ensures.queues c.next_of-in-Some.ensures.own
+    run_queues_searched c.args.pipes.now all (record { queues = c.next_of-in-Some.new.queues; own = after }) c.args.caller c.in-Some.own.now.queue new.queue r set c.next_of-in-Some.ensures.queues c.next_of-in-Some.ensures.own
 
 pub returns-in-Some-clause-next : goal.returns-in-Some-clause-next
 returns-in-Some-clause-next g c =
