@@ -35,7 +35,8 @@ fn pass<W: Work>(board: &mut BoardCore<W>, pipe: u64) -> bool
 fn work_around<W: Work>(board: &mut BoardCore<W>, pipe: u64)
     requires { IsOpenFor has_queue board.old pipe 0 }
     ensures open { IsOpenFor has_queue board.new pipe 0 }
-    ensures first { (p n : ℕ) (out : W.Out) → MayFinish W.meaning (entries_of p board.old) 1 n out → MayFinish W.meaning (entries_of p board.new) 1 n out }
+    ensures first { (p n : ℕ) (out : W.Out) → MayFinish W.meaning (entries_of p board.old) 1 n out
+        → MayFinish W.meaning (entries_of p board.new) 1 n out }
 {
     pipelines_stay::<W::Ask>();
     slips_stay::<W::Ask, W::Out>();
