@@ -22,7 +22,7 @@ use Rattle.board.specs.Entries.{Starts, Completes, birth, accepted_in, submissio
 use Rattle.board.specs.Legal.{IsRightFor}
 use Rattle.board.specs.Order.{handed_out, completed, numbers_below, step_tells, backlogged_in, backlogged, AreAllFinished}
 use Rattle.board.proofs.Lists.{filter_map-none, filter_map-some, has_only_below, last_or-append, low_number, taker_among}
-use Rattle.board.proofs.Keeping.{born_some, queue_has_line}
+use Rattle.board.proofs.Keeping.{born_some, has_queue_of_queue}
 use Rattle.transforms.specs.declared.ask.Ask.{Ask}
 use Rattle.dialogues.specs.BoardCalls.{Asked, asked_by, outcome}
 use Rattle.sequential_model.specs.Pipelines.{Pipeline, new_pipeline, next_number, is_all_delivered, asked_more, now_held, let_go, all_delivered, verdict_at, verdict_of}
@@ -465,7 +465,7 @@ module _ (laws : BoardLaws) where
           ap (λ ns. filter_map (callback_of outcome (submissions es)) (drop (collected es) ns)) (whole ∙ right.queue q)
           ∙ (ap (λ ns. filter_map (callback_of outcome (submissions es)) ns) u.2
           ∙ (queue_callbacks (submissions es) (max_born (birth es)) pipeline.delivered u.0 (drop pipeline.delivered (submissions es)) refl u.1
-          ∙ (λ i. drained ((sym (bound_of_line (birth es) (queue_has_line (birth es) q)) ∙ o.bound) i) pipeline.delivered (o.asks i))))
+          ∙ (λ i. drained ((sym (bound_of_line (birth es) (has_queue_of_queue (birth es) q)) ∙ o.bound) i) pipeline.delivered (o.asks i))))
 
   pub collected_now : (es : List (BoardEntry Ask)) (caller pipe to : ℕ) (pipeline : Pipeline) → length (completed (handed_out (es ++ Collect caller pipe to ∷ []))) ≡ length (submissions es) → Behaves es → is_some (birth es) ≡ true → to ≡ length (told es) → is_all_done es ≡ true
       → is_held (es ++ Collect caller pipe to ∷ []) ≡ is_held es → IsPipelineOf pipeline es → IsPipelineOf (all_delivered pipeline) (es ++ Collect caller pipe to ∷ [])
