@@ -1,5 +1,5 @@
 -- A line of words, a word of ids, and a text of lines, one more at a time.
-use Rattle.std.proofs.Common.{refl, codes, ◌≡◌, ℕ, ◌+◌, ◌<◌, ◌≤◌, List, [], ◌∷◌, ◌++◌, length, take, get_or, map, Bor, sym, ap, append-nil, ◌∙◌, append_assoc}
+use Rattle.std.proofs.Common.{refl, codes, ◌≡◌, ℕ, ◌+◌, ◌<◌, ◌≤◌, List, [], ◌∷◌, ◌++◌, length, take, get_or, map, sym, ap, append-nil, ◌∙◌, append_assoc}
 use Rattle.std.specs.List.{join_with_byte, flat_map}
 use Rattle.std.specs.Fmt.{decimal}
 use Rattle.std.proofs.lemmas.List.{take_more, map_push, take_all}
