@@ -12,5 +12,6 @@ pub mod Submitting
 pub mod TaskPlaces
 pub mod Tasks
 pub mod Telling
+pub mod Together
 pub mod Turns
 pub mod Working
