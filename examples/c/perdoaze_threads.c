@@ -73,8 +73,9 @@ static int begin_anew(struct perdoaze_crew *crew)
 		return err;
 	crew->before += crew->accepted;
 	crew->accepted = 0;
+	crew->taken = 0;
 	crew->complete = 0;
-	return perdoaze_pipe_init(&crew->pipe, crew->kind, crew->max, crew->workers);
+	return perdoaze_pipe_init(&crew->pipe, crew->kind, crew->max, crew->workers * crew->each);
 }
 
 static void wait_a_moment(struct perdoaze_crew *crew)
@@ -86,22 +87,33 @@ static void wait_a_moment(struct perdoaze_crew *crew)
 	pthread_mutex_lock(&crew->lock);
 }
 
+/* How many jobs a thread takes: its share of those that wait, so that the other threads have theirs. */
+static uint32_t share(const struct perdoaze_crew *crew)
+{
+	uint64_t waiting = crew->accepted - crew->taken, part = 1 + waiting / (crew->workers + 1);
+
+	return part < crew->each ? (uint32_t)part : crew->each;
+}
+
 static void *work(void *given)
 {
 	struct perdoaze_crew *crew = given;
-	struct perdoaze_job job = PERDOAZE_NONE;
-	uint32_t me;
+	struct perdoaze_job jobs[PERDOAZE_CREW_JOBS];
+	uint32_t first;
 
+	memset(jobs, 0, sizeof jobs);
 	pthread_mutex_lock(&crew->lock);
-	me = ++crew->next;
+	first = 1 + crew->each * crew->next++;
 	for (;;) {
-		int took = perdoaze_pipe_take(&crew->pipe, me, &job);
+		int took = perdoaze_pipe_take_many(&crew->pipe, first, jobs, share(crew));
 
-		if (took == 1) {
+		if (took > 0) {
+			crew->taken += (uint32_t)took;
 			pthread_mutex_unlock(&crew->lock);
-			perdoaze_job_run(&job);
+			perdoaze_jobs_run(jobs, (size_t)took);
 			pthread_mutex_lock(&crew->lock);
-			perdoaze_pipe_finish(&crew->pipe, &job);
+			for (int i = 0; i < took; i++)
+				perdoaze_pipe_finish(&crew->pipe, &jobs[i]);
 			tell_all(crew);
 		} else if (took == -ENOMEM) {
 			wait_a_moment(crew);
@@ -112,7 +124,8 @@ static void *work(void *given)
 		}
 	}
 	pthread_mutex_unlock(&crew->lock);
-	perdoaze_job_free(&job);
+	for (int i = 0; i < PERDOAZE_CREW_JOBS; i++)
+		perdoaze_job_free(&jobs[i]);
 	return NULL;
 }
 
@@ -144,7 +157,10 @@ int perdoaze_crew_start(struct perdoaze_crew *crew, uint32_t kind, uint32_t max,
 	crew->user = user;
 	if (!workers || workers > PERDOAZE_MAX_WORKERS)
 		return -EINVAL;
-	err = perdoaze_pipe_init(&crew->pipe, kind, max, workers);
+	crew->each = PERDOAZE_MAX_WORKERS / workers;
+	if (crew->each > PERDOAZE_CREW_JOBS)
+		crew->each = PERDOAZE_CREW_JOBS;
+	err = perdoaze_pipe_init(&crew->pipe, kind, max, workers * crew->each);
 	if (err)
 		return err;
 	pthread_mutexattr_init(&spins);

@@ -14,7 +14,10 @@ extern "C" {
  * of a request that is complete, and lie there for the call's time alone. It makes no call on the crew. */
 typedef void perdoaze_told(void *user, const struct perdoaze_event *event, const uint8_t *bytes);
 
-/* Its fields are private. */
+/* The most jobs that a thread takes at a time. */
+#define PERDOAZE_CREW_JOBS 8
+
+/* Its fields are private. A thread stands for `each` of the pipe's workers, and has as many jobs at most. */
 struct perdoaze_crew {
 	pthread_mutex_t lock;
 	pthread_cond_t work, idle;
@@ -24,8 +27,8 @@ struct perdoaze_crew {
 	void *user;
 	uint8_t *bytes;
 	size_t room;
-	uint64_t before, accepted, complete;
-	uint32_t kind, max, workers, next;
+	uint64_t before, accepted, taken, complete;
+	uint32_t kind, max, workers, each, next;
 	int error;
 	bool is_telling, is_ending;
 };

@@ -115,7 +115,7 @@ static bool work(struct worker *w, struct line *l, struct line *other)
 		perdoaze_job_free(&job);
 		return true;
 	}
-	CHECK(w, !perdoaze_job_run(&job) && perdoaze_job_run(&job) == -EINVAL);
+	CHECK(w, !(draw(w, 2) ? perdoaze_job_run(&job) : perdoaze_jobs_run(&job, 1)) && perdoaze_job_run(&job) == -EINVAL);
 	pthread_mutex_lock(&other->lock);
 	took = perdoaze_pipe_finish(&other->pipe, &job);
 	pthread_mutex_unlock(&other->lock);

@@ -42,7 +42,7 @@ static int take(void)
 
 static int finish(void)
 {
-	return perdoaze_job_run(&job) ? -EINVAL : perdoaze_pipe_finish(&pipe_, &job);
+	return perdoaze_jobs_run(&job, 1) ? -EINVAL : perdoaze_pipe_finish(&pipe_, &job);
 }
 
 static int poll(void)

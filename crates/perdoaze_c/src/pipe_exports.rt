@@ -1,7 +1,7 @@
 //! What C calls of pipes. No pointer is NULL here: the header's inline functions see to that.
 
 ghost use Rattle.std.specs.Prelude.{◌≡◌, ⊤, None};
-ghost use Rattle.perdoaze_pipes.specs.Calls.{OnPipe, TakesInto, RunsIn, FinishesFrom, SubmitsBy, Drains, To};
+ghost use Rattle.perdoaze_pipes.specs.Calls.{OnPipe, TakesInto, RunsIn, RunsEach, FinishesFrom, SubmitsBy, Drains, To};
 ghost use Rattle.perdoaze_pipes.specs.QueueControl.{Holds, Goes, Masks};
 ghost use Rattle.perdoaze_pipes.specs.Polls.{Polls};
 ghost use Rattle.perdoaze_pipes.specs.Submission.{Begins, direction as direction_by};
@@ -68,6 +68,14 @@ pub extern "C" fn perdoaze_raw_job_run(job: &mut TaskPlace, alloc: Global) -> i3
     ensures { To result (λ a. RunsIn job.old.handle.value job.new.handle.value a) }
 {
     calls::run(job, alloc).code()
+}
+
+/// Does the work of the jobs in eight places.
+#[unsafe(no_mangle)]
+pub extern "C" fn perdoaze_raw_jobs_run(jobs: &mut [TaskPlace; 8], alloc: Global)
+    ensures { RunsEach jobs.old jobs.new }
+{
+    calls::run_eight(jobs, alloc);
 }
 
 /// Takes back a job that was run.

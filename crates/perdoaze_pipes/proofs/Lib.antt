@@ -1,4 +1,5 @@
 pub mod Delivering
+pub mod EndedRuns
 pub mod Keeping
 pub mod PipeFilled
 pub mod Places

@@ -1,5 +1,5 @@
 -- What a call comes to on the places of C.
-use Rattle.std.specs.Prelude.{◌≡◌, ◌≢◌, ◌<◌, ◌⊎◌, ℕ, ℤ, Bool, List, [], length, Option, Some, None}
+use Rattle.std.specs.Prelude.{◌≡◌, ◌≢◌, ◌<◌, ◌⊎◌, ℕ, ℤ, Bool, List, [], length, map, slice_index_or, Option, Some, None}
 use Rattle.board.specs.Entries.{entries_of, submissions, front}
 use Rattle.transforms.specs.declared.request.Dir.{Dir}
 use Rattle.perdoaze_calls.specs.declared.transform.Transform.{Transform}
@@ -12,6 +12,7 @@ use Rattle.perdoaze_pipes.specs.declared.answer.Answer.{Answer}
 use Rattle.perdoaze_pipes.specs.declared.answer.Answer.TheVariants as answer
 use Rattle.perdoaze_pipes.specs.declared.task.Task.{Task}
 use Rattle.perdoaze_pipes.specs.declared.task.Task.TheVariants.{Idle}
+use Rattle.perdoaze_pipes.specs.declared.task_place.TaskPlace.{TaskPlace}
 
 -- on a place: where there is no pipe the call is invalid, and all else is as it was
 abbrev pub OnPipe : Option PipeOf → Option PipeOf → Answer → Type 0 → (PipeOf → PipeOf → Type 0) → Type 0
@@ -33,6 +34,14 @@ abbrev pub RunsIn : Option Task → Option Task → Answer → Type 0
 RunsIn None u a = (a ≡ answer.Invalid) × (u ≡ None)
 RunsIn (Some t) None a = ⊥
 RunsIn (Some t) (Some u) a = Runs t u a
+
+-- the task in a place
+abbrev pub task_at : List TaskPlace → ℕ → Option Task
+task_at tasks n = slice_index_or (map (λ place. place.handle.value) tasks) n None
+
+-- the same of eight places, each by itself
+abbrev pub RunsEach : List TaskPlace → List TaskPlace → Type 0
+RunsEach old new = (n : ℕ) → n < 8 → (a : Answer) × RunsIn (task_at old n) (task_at new n) a
 
 abbrev pub FinishesFrom : PipeOf → PipeOf → Answer → Option Task → Option Task → Type 0
 FinishesFrom p q a None u = (a ≡ answer.Invalid) × (u ≡ None) × (q ≡ p)

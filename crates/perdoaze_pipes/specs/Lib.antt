@@ -12,5 +12,6 @@ pub mod Submission
 pub mod TaskPlaces
 pub mod Tasks
 pub mod PipeHistory
+pub mod Together
 pub mod Turns
 pub mod PipeWork

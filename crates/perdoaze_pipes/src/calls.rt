@@ -1,7 +1,7 @@
 //! The calls of C, each on places for a pipe and for a job.
 
 ghost use Rattle.std.specs.Prelude.{◌≡◌, ⊤, None, MatchOption};
-ghost use Rattle.perdoaze_pipes.specs.Calls.{OnPipe, TakesInto, task_in, RunsIn, FinishesFrom, SubmitsBy, Drains};
+ghost use Rattle.perdoaze_pipes.specs.Calls.{OnPipe, TakesInto, task_in, RunsIn, RunsEach, FinishesFrom, SubmitsBy, Drains};
 ghost use Rattle.perdoaze_pipes.specs.QueueControl.{Holds, Goes, Masks};
 ghost use Rattle.perdoaze_pipes.specs.Polls.{Polls};
 ghost use Rattle.perdoaze_pipes.specs.Submission.{Begins, direction as direction_by};
@@ -12,6 +12,7 @@ use crate::pipe::Pipe;
 use crate::pipe_place::PipePlace;
 use crate::task::Task;
 use crate::task_place::TaskPlace;
+use crate::together::run_each;
 use perdoaze_calls::Slot;
 use std::alloc::Global;
 
@@ -110,6 +111,13 @@ pub fn run(task: &mut TaskPlace, alloc: Global) -> Answer
     let answer = held.run();
     task.fill(held);
     answer
+}
+
+/// Does the work of the jobs in eight places: side by side where all seal under CBC, or authenc over it, under one key.
+pub fn run_eight(tasks: &mut [TaskPlace; 8], alloc: Global)
+    ensures { RunsEach tasks.old tasks.new }
+{
+    run_each(tasks, alloc);
 }
 
 /// Takes back a job that was run.

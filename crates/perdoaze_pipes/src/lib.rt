@@ -7,7 +7,6 @@ pub mod calls;
 mod event;
 mod job;
 mod laws;
-mod loose;
 mod pipe;
 mod pipe_handle;
 mod pipe_history;
@@ -23,6 +22,7 @@ mod task_handle;
 mod task_place;
 mod task_runs;
 mod ticket;
+mod together;
 mod turn;
 
 pub use answer::Answer;

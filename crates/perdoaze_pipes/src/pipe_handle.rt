@@ -4,8 +4,8 @@ ghost use Rattle.std.specs.Prelude.{◌≡◌, Option, Some, None, true, false};
 ghost use Rattle.perdoaze_pipes.specs.declared.pipe.Pipe.{Pipe};
 ghost use Rattle.perdoaze_pipes.specs.PipePlaces.{held_at, is_filled};
 
-use crate::loose::Loose;
 use crate::pipe::Pipe;
+use perdoaze_calls::Loose;
 use std::alloc::Global;
 use std::marker::Model;
 

@@ -5,9 +5,9 @@ ghost use Rattle.std.specs.Option.{option_map};
 ghost use Rattle.std.specs.Box.{box_value};
 ghost use Rattle.perdoaze_pipes.specs.PipePlaces.{is_filled};
 
-use crate::loose::Loose;
 use crate::pipe::Pipe;
 use crate::pipe_handle::PipeHandle;
+use perdoaze_calls::Loose;
 use std::alloc::Global;
 use std::mem;
 

@@ -4,8 +4,8 @@ ghost use Rattle.std.specs.Prelude.{◌≡◌, Option, Some, None, true, false};
 ghost use Rattle.perdoaze_pipes.specs.declared.task.Task.{Task};
 ghost use Rattle.perdoaze_pipes.specs.TaskPlaces.{held_at, is_filled};
 
-use crate::loose::Loose;
 use crate::task::Task;
+use perdoaze_calls::Loose;
 use std::alloc::Global;
 use std::marker::Model;
 

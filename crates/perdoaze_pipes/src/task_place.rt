@@ -5,9 +5,9 @@ ghost use Rattle.std.specs.Option.{option_map};
 ghost use Rattle.std.specs.Box.{box_value};
 ghost use Rattle.perdoaze_pipes.specs.TaskPlaces.{is_filled};
 
-use crate::loose::Loose;
 use crate::task::Task;
 use crate::task_handle::TaskHandle;
+use perdoaze_calls::Loose;
 use std::alloc::Global;
 use std::mem;
 
@@ -22,13 +22,21 @@ pub struct TaskPlace {
 
 impl TaskPlace {
     /// A place that has none.
-    fn empty() -> TaskPlace
+    pub(crate) fn empty() -> TaskPlace
         ensures { result.handle.value ≡ None }
     {
         TaskPlace {
             full: false,
             handle: TaskHandle::empty(),
         }
+    }
+
+    /// Lets a place go that has none.
+    pub(crate) fn discard(self)
+        requires { self.handle.value ≡ None }
+    {
+        let TaskPlace { full: _, handle } = self;
+        handle.discard();
     }
 
     /// Puts a task into a place that has none.
@@ -40,8 +48,7 @@ impl TaskPlace {
             full: true,
             handle: TaskHandle::of(Loose::of(task)),
         };
-        let TaskPlace { full: _, handle } = mem::replace(self, filled);
-        handle.discard();
+        mem::replace(self, filled).discard();
     }
 
     /// Takes the task out of the place, where there is one.

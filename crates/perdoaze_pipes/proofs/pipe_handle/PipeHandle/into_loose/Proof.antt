@@ -33,7 +33,7 @@ use Rattle.std_heap.specs.contracts.GlobalAllocator.TheImpl.{ghosts}
 use Rattle.std_heap.proofs.Global.TheLaws as heap
 use Rattle.std.proofs.raw_atomic.Walks.{proved_at}
 use Rattle.perdoaze_pipes.specs.contracts.pipe.Pipe as tfm
-use Rattle.perdoaze_pipes.specs.contracts.loose.Loose as loose
+use Rattle.perdoaze_calls.specs.contracts.loose.Loose as loose
 use Rattle.perdoaze_pipes.specs.contracts.pipe_handle.PipeHandle.{the_row}
 use Rattle.perdoaze_pipes.specs.contracts.pipe_handle.PipeHandle.into_loose as f
 use Rattle.perdoaze_pipes.proofs.pipe_handle.PipeHandle.into_loose.Statement.{statement}

@@ -30,7 +30,7 @@ use Rattle.std_heap.proofs.Global.TheLaws as heap
 use Rattle.std.proofs.raw_atomic.Walks.{proved_at}
 use Rattle.perdoaze_pipes.specs.TaskPlaces.{freed_by}
 use Rattle.perdoaze_pipes.specs.contracts.task.Task as tfm
-use Rattle.perdoaze_pipes.specs.contracts.loose.Loose as loose
+use Rattle.perdoaze_calls.specs.contracts.loose.Loose as loose
 use Rattle.perdoaze_pipes.specs.contracts.task_handle.TaskHandle.{the_type}
 use Rattle.perdoaze_pipes.specs.contracts.task_handle.TaskHandle.of as f
 use Rattle.perdoaze_pipes.proofs.task_handle.TaskHandle.of.Statement.{statement}
