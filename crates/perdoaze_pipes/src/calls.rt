@@ -54,7 +54,8 @@ pub fn submit(
 ) -> Answer
     ensures kept { slot.new.handle.value ≡ slot.old.handle.value }
     ensures came { OnPipe place.old.handle.value place.new.handle.value result (number.new ≡ number.old)
-        (λ p q. SubmitsBy p q slot.old.handle.value (direction_by direction) backlog iv.now aad.now text.now result number.old number.new) }
+        (λ p q. SubmitsBy p q slot.old.handle.value (direction_by direction)
+        backlog iv.now aad.now text.now result number.old number.new) }
 {
     let Some(mut pipe) = place.take(alloc) else {
         return Answer::Invalid;

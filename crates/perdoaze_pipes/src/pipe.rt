@@ -195,7 +195,8 @@ impl Pipe {
             ((next : Told Outcome) × (self.old.left ≡ next ∷ self.new.left)
             × (self.new ≡ record self.old { left = self.new.left }) × Tells next event.new out.old out.new)
             ((self.new ≡ self.old)
-            × ((next : Told Outcome) × (rest : List (Told Outcome)) × (self.old.left ≡ next ∷ rest) × HasNoRoom next event.new out.old)
+            × ((next : Told Outcome) × (rest : List (Told Outcome)) × (self.old.left ≡ next ∷ rest)
+            × HasNoRoom next event.new out.old)
             × (out.new ≡ out.old)) }
     {
         if !tell(&self.inbox[self.next], event, out) {

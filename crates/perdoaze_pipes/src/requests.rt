@@ -152,7 +152,8 @@ impl Requests {
             (λ said. (said ≡ verdict es backlog) × ((ask : Arc AskOf GlobalMemory) × (arc_value ask ≡ arc_value job.job.ask)
             × (self.new ≡ record self.old { history = self.old.history ++ Entry.Enq 0 0 ask backlog said ∷ [] })))
             (λ _. self.new ≡ self.old) }
-        ensures refused { IfErr result (λ e. (e ≡ BoardErr.TooBig) ↔ (IsAllowed ask_size self.old.history 0 (arc_value job.job.ask) → ⊥)) }
+        ensures refused { IfErr result (λ e. (e ≡ BoardErr.TooBig)
+            ↔ (IsAllowed ask_size self.old.history 0 (arc_value job.job.ask) → ⊥)) }
         ensures other { IfErr result (λ e. e ≢ BoardErr.NoWorker) }
     {
         board_laws();

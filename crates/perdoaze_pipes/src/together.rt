@@ -47,9 +47,11 @@ fn begin_each(
     places: [TaskPlace; 8],
     alloc: Global,
 ) -> ([TaskPlace; 8], [Option<Job>; 8], [Option<Out>; 8])
-    ensures begins { (n : ℕ) → n < 8 → Begins (task_at places n) (task_at result.0 n) (slice_index_or result.1 n None) (slice_index_or result.2 n None) }
+    ensures begins { (n : ℕ) → n < 8
+        → Begins (task_at places n) (task_at result.0 n) (slice_index_or result.1 n None) (slice_index_or result.2 n None) }
     ensures rooms { (n : ℕ) → n < 8 → beside (slice_index_or result.2 n None) (task_at result.0 n) ≡ None }
-    ensures values { (n : ℕ) → n < 8 → option_map job_value (slice_index_or result.1 n None) ≡ option_map out_value (slice_index_or result.2 n None) }
+    ensures values { (n : ℕ) → n < 8 → option_map job_value (slice_index_or result.1 n None)
+        ≡ option_map out_value (slice_index_or result.2 n None) }
 {
     let [a, b, c, d, e, f, g, h] = places;
     let (a, job_a, out_a) = begin(a, alloc);
@@ -81,8 +83,10 @@ fn key_of(outs: &[Option<Out>; 8]) -> Option<&Keyed>
 
 /// Runs the jobs, in step where they all fit under the first one's key.
 fn run_jobs(alloc: Global, outs: &[Option<Out>; 8], jobs: [Option<Job>; 8]) -> [Option<Finished>; 8]
-    requires { (n : ℕ) → n < 8 → option_map job_value (slice_index_or jobs n None) ≡ option_map out_value (slice_index_or outs.now n None) }
-    ensures { (n : ℕ) → n < 8 → option_map finished_value (slice_index_or result n None) ≡ option_map out_value (slice_index_or outs.now n None) }
+    requires { (n : ℕ) → n < 8 → option_map job_value (slice_index_or jobs n None)
+        ≡ option_map out_value (slice_index_or outs.now n None) }
+    ensures { (n : ℕ) → n < 8 → option_map finished_value (slice_index_or result n None)
+        ≡ option_map out_value (slice_index_or outs.now n None) }
 {
     match key_of(outs) {
         Some(key) => run_together(alloc, key, jobs),
@@ -120,7 +124,8 @@ fn end_each(
     outs: [Option<Out>; 8],
     finished: [Option<Finished>; 8],
 ) -> [TaskPlace; 8]
-    requires values { (n : ℕ) → n < 8 → option_map finished_value (slice_index_or finished n None) ≡ option_map out_value (slice_index_or outs n None) }
+    requires values { (n : ℕ) → n < 8 → option_map finished_value (slice_index_or finished n None)
+        ≡ option_map out_value (slice_index_or outs n None) }
     requires rooms { (n : ℕ) → n < 8 → beside (slice_index_or outs n None) (task_at places n) ≡ None }
     ensures { (n : ℕ) → n < 8 → Ends (slice_index_or outs n None) (task_at places n) (task_at result n) }
 {
