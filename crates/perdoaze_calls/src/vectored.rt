@@ -92,6 +92,22 @@ impl Transform {
         }
     }
 
+    /// The same of `encrypt_within`, where there is one piece.
+    fn encrypt_one_within(
+        &self,
+        iv: &[u8],
+        aad: &[u8],
+        pieces: &mut [PieceMut<'_>],
+        n: usize,
+        written: &mut usize,
+    ) -> Status
+        requires { length pieces.old ≡ 1 }
+        ensures came { EncryptsWithin self.now iv.now aad.now n result (text_over pieces.old) (text_over pieces.new) written.new }
+        ensures sizes { map size_of pieces.new ≡ map size_of pieces.old }
+    {
+        self.encrypt_within(iv, aad, pieces[0].bytes, n, written)
+    }
+
     /// The same of `encrypt_within`, where the pieces have few bytes: these are copied to the stack.
     fn encrypt_few_within(
         &self,
@@ -112,7 +128,23 @@ impl Transform {
         status
     }
 
-    /// The same of `decrypt_within`.
+    /// The same of `decrypt_within`, where there is one piece.
+    fn decrypt_one_within(
+        &self,
+        iv: &[u8],
+        aad: &[u8],
+        pieces: &mut [PieceMut<'_>],
+        n: usize,
+        written: &mut usize,
+    ) -> Status
+        requires { length pieces.old ≡ 1 }
+        ensures came { DecryptsWithin self.now iv.now aad.now n result (text_over pieces.old) (text_over pieces.new) written.new }
+        ensures sizes { map size_of pieces.new ≡ map size_of pieces.old }
+    {
+        self.decrypt_within(iv, aad, pieces[0].bytes, n, written)
+    }
+
+    /// The same of `decrypt_within`, where the pieces have few bytes.
     fn decrypt_few_within(
         &self,
         iv: &[u8],
@@ -132,8 +164,8 @@ impl Transform {
         status
     }
 
-    /// Encrypts the first `n` bytes of the pieces in their place, and writes the tag behind them. It takes memory for all of them where they
-    /// have more than 4,160 bytes together.
+    /// Encrypts the first `n` bytes of the pieces in their place, and writes the tag behind them. It takes memory for all of them where there
+    /// are several, of more than 4,160 bytes together.
     pub fn encrypt_pieces_within(
         &self,
         alloc: Global,
@@ -147,6 +179,9 @@ impl Transform {
             result (text_over pieces.old) (text_over pieces.new) written.new }
         ensures sizes { map size_of pieces.new ≡ map size_of pieces.old }
     {
+        if pieces.len() == 1 {
+            return self.encrypt_one_within(iv, aad, pieces, n, written);
+        }
         if are_few(pieces) {
             return self.encrypt_few_within(iv, aad, pieces, n, written);
         }
@@ -159,8 +194,8 @@ impl Transform {
         status
     }
 
-    /// Decrypts the first `n` bytes of the pieces in their place, of which the last are the tag. It takes memory for all of them where they
-    /// have more than 4,160 bytes together.
+    /// Decrypts the first `n` bytes of the pieces in their place, of which the last are the tag. It takes memory for all of them where there
+    /// are several, of more than 4,160 bytes together.
     pub fn decrypt_pieces_within(
         &self,
         alloc: Global,
@@ -174,6 +209,9 @@ impl Transform {
             result (text_over pieces.old) (text_over pieces.new) written.new }
         ensures sizes { map size_of pieces.new ≡ map size_of pieces.old }
     {
+        if pieces.len() == 1 {
+            return self.decrypt_one_within(iv, aad, pieces, n, written);
+        }
         if are_few(pieces) {
             return self.decrypt_few_within(iv, aad, pieces, n, written);
         }
