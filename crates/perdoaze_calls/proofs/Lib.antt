@@ -7,3 +7,4 @@ pub mod Encryptions
 pub mod Chained
 pub mod Making
 pub mod Single
+pub mod Overs

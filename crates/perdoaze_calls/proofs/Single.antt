@@ -1,8 +1,8 @@
 -- A text in one piece.
 use Rattle.std.proofs.Common.{◌≡◌, ℕ, List, [], ◌∷◌, ◌++◌, length, get_or, set, sym, ap, subst, ◌∙◌, arith, append-nil}
-use Rattle.perdoaze_calls.specs.Pieces.{text_over}
+use Rattle.piece_modes.specs.Pieces.{text_over}
 use Rattle.perdoaze_calls.specs.Requests.{EncryptsWithin, DecryptsWithin}
-use Rattle.perdoaze_calls.specs.declared.pieces.PieceMut.{PieceMut}
+use Rattle.piece_modes.specs.declared.piece.PieceMut.{PieceMut}
 use Rattle.perdoaze_calls.specs.declared.status.Status.{Status}
 use Rattle.perdoaze_calls.specs.declared.transform.Transform.{Transform}
 

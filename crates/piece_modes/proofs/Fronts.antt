@@ -51,4 +51,3 @@ module _ {W : Type 0} (makes : W → List ℕ → List ℕ → W → Type 0) (u 
 
   pub front_rest : drop n (text_over new) ≡ drop n (text_over old)
   front_rest = ap (drop n) (text_is new) ∙ went.rest ∙ sym (ap (drop n) (text_is old))
-

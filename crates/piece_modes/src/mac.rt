@@ -8,8 +8,8 @@ ghost use Rattle.piece_modes.specs.Pieces.{text_over};
 use crate::piece::PieceMut;
 use hmac_sha::Mac;
 use in_step::Text;
-use sha2::Digest;
 use sha_lanes::Sha256;
+use sha2::Digest;
 
 /// Hashes the first `n` bytes of the pieces.
 fn hash_front(hasher: &mut Sha256, pieces: &[PieceMut<'_>], n: usize)
@@ -26,12 +26,7 @@ fn hash_front(hasher: &mut Sha256, pieces: &[PieceMut<'_>], n: usize)
 
 /// The whole MAC of the associated bytes and the first `n` bytes of the pieces behind them, as one message. It takes no memory.
 #[tactic(auto, unfolding(std_defs::specs::Hmac::hmac_under))]
-pub fn mac_of_front(
-    mac: &Mac,
-    associated: &[u8],
-    pieces: &[PieceMut<'_>],
-    n: usize,
-) -> [u8; 32]
+pub fn mac_of_front(mac: &Mac, associated: &[u8], pieces: &[PieceMut<'_>], n: usize) -> [u8; 32]
     ensures { result ≡ hmac_under mac.now (associated.now ++ take n (text_over pieces.now)) }
 {
     // copying a hasher takes no memory, so it is always `Ok`

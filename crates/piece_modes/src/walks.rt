@@ -23,12 +23,7 @@ fn step_within<W: Walker>(piece: &mut [u8], at: usize, count: usize, walker: &mu
 
 /// Goes over bytes that begin at the byte `at` of the piece `i`, and may go on in those behind it: eight blocks, which a
 /// cipher in lanes seals in the time of one, or what is left of the text. How many bytes.
-fn step_across<W: Walker>(
-    pieces: &mut [PieceMut<'_>],
-    i: usize,
-    at: usize,
-    walker: &mut W,
-) -> usize
+fn step_across<W: Walker>(pieces: &mut [PieceMut<'_>], i: usize, at: usize, walker: &mut W) -> usize
     requires within { i < length pieces.old }
     requires inside { at ≤ length (concat (drop i (parts_of pieces.old))) }
     ensures count { result ≡ min 128 (length (concat (drop i (parts_of pieces.old))) - at) }

@@ -1,6 +1,6 @@
 use Rattle.std.proofs.Common.{refl}
 use Rattle.std.proofs.Math.Seq.{map-set_same}
-use Rattle.perdoaze_calls.specs.Pieces.{size_of}
+use Rattle.piece_modes.specs.Pieces.{size_of}
 use Rattle.perdoaze_calls.proofs.Single.{encrypted_one}
 use Rattle.perdoaze_calls.proofs.transform.Transform.encrypt_one_within.Goals as goal
 
