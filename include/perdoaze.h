@@ -53,7 +53,7 @@ struct perdoaze {
 /** The most pieces that a text may lie in. readv has the same limit. */
 #define PERDOAZE_MAX_PIECES 1024
 
-/** The most bytes that pieces have together which are changed in their place without memory of malloc. */
+/** The most bytes that several pieces have together which are changed in their place without memory of malloc. One piece never takes any. */
 #define PERDOAZE_ON_STACK 4160
 
 /** The most bytes of stack that a call takes. */
@@ -358,8 +358,9 @@ static inline int perdoaze_decryptv(struct perdoaze *tfm, const void *iv, size_t
 }
 
 /** As perdoaze_encrypt_in_place, where the buffer lies in pieces: its first `n` bytes are encrypted, and the tag goes behind them. No two
- *  pieces have a byte in common. The pieces are copied, and copied back: to the stack where they have at most PERDOAZE_ON_STACK bytes
- *  together. -ENOMEM: they have more, and malloc gave nothing for the copy. */
+ *  pieces have a byte in common. One piece is worked where it lies. Several are copied, and copied back: to the stack where they have at
+ *  most PERDOAZE_ON_STACK bytes together. Where they have more, gcm(aes) goes over them where they lie, and copies no more than what
+ *  stands around the end of each. -ENOMEM: another algorithm, or a request that isn't taken, and malloc gave nothing for the copy. */
 static inline int perdoaze_encryptv_in_place(struct perdoaze *tfm, const void *iv, size_t iv_len, const void *aad, size_t aad_len,
 					     const struct iovec *buffer, size_t pieces, size_t n, size_t *written)
 {

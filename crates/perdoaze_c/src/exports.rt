@@ -4,7 +4,8 @@ ghost use Rattle.std.specs.Prelude.{◌≡◌, ◌<◌, ℕ, length, map, None};
 ghost use Rattle.perdoaze_calls.specs.Infos.{ListsTo, TellsTo};
 ghost use Rattle.perdoaze_calls.specs.Many.{CameTo, question_of};
 ghost use Rattle.perdoaze_calls.specs.Names.{BeginsTo};
-ghost use Rattle.perdoaze_calls.specs.Pieces.{text_in, text_over, size_of};
+ghost use Rattle.perdoaze_calls.specs.Pieces.{text_in};
+ghost use Rattle.piece_modes.specs.Pieces.{text_over, size_of};
 ghost use Rattle.perdoaze_calls.specs.Requests.{Encrypts, Decrypts, EncryptsWithin, DecryptsWithin, Digests, OnPlaceTo, OrNoMemory};
 ghost use Rattle.perdoaze_calls.specs.Settings.{KeySetTo, SizeSetTo, DuplicatesTo};
 

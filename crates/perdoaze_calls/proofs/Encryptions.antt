@@ -17,11 +17,11 @@ use Rattle.transforms.specs.declared.request.Dir.TheVariants.{Enc}
 use Rattle.transforms.specs.declared.request.Request.{Request}
 use Rattle.perdoaze_calls.proofs.Answering.{IsKey, has_value}
 use Rattle.perdoaze_calls.specs.Many.{CameTo, FitsInStep, question_of, iv_in, aad_in, len_in, written_in, status_in, bytes_in}
-use Rattle.perdoaze_calls.specs.Pieces.{size_of}
+use Rattle.piece_modes.specs.Pieces.{size_of}
 use Rattle.perdoaze_calls.specs.Requests.{Gave, EncryptsWithin}
 use Rattle.perdoaze_calls.specs.Status.{code_of}
 use Rattle.perdoaze_calls.specs.declared.encryption.Encryption.{Encryption}
-use Rattle.perdoaze_calls.specs.declared.pieces.PieceMut.{PieceMut}
+use Rattle.piece_modes.specs.declared.piece.PieceMut.{PieceMut}
 use Rattle.perdoaze_calls.specs.declared.status.Status.{Status}
 use Rattle.perdoaze_calls.specs.declared.status.Status.TheVariants.{Done}
 use Rattle.perdoaze_calls.specs.declared.transform.Transform.{Transform}

@@ -3,9 +3,10 @@ use Rattle.std.proofs.Common.{◌≡◌, ℕ, suc, ◌+◌, ◌-◌, ◌≤◌, 
 use Rattle.std.proofs.lemmas.List.{drop-drop, drop_all, length-take-le, take_all, nil_from_length, map-append, length-set, take_more_set, drop-set-lt, take_more}
 use Rattle.std.proofs.Math.Seq.{take-append_seam, drop-append_seam, take-add}
 use Rattle.sg_walk.proofs.Joined.{piece_first}
-use Rattle.perdoaze_calls.specs.Pieces.{text_in, text_over, size_of}
+use Rattle.perdoaze_calls.specs.Pieces.{text_in}
+use Rattle.piece_modes.specs.Pieces.{text_over, size_of}
 use Rattle.perdoaze_calls.specs.declared.pieces.Piece.{Piece}
-use Rattle.perdoaze_calls.specs.declared.pieces.PieceMut.{PieceMut}
+use Rattle.piece_modes.specs.declared.piece.PieceMut.{PieceMut}
 
 -- the piece at i, and those behind it
 pub text_from : (ps : List Piece) (i : ℕ) (d : Piece) → i < length ps → text_in (drop i ps) ≡ (get_or ps i d).bytes.now ++ text_in (drop (i + 1) ps)

@@ -11,7 +11,7 @@ use Rattle.transforms.specs.Plans.{takes_key, takes_tag, is_key_length, is_salte
 use Rattle.perdoaze_calls.specs.Infos.{least_key, greatest_key, no_limit}
 use Rattle.perdoaze_calls.specs.Laws.{TakesSize}
 
-either : (a b : Bool) → (a || b) ≡ true → (a ≡ true) ⊎ (b ≡ true)
+pub either : (a b : Bool) → (a || b) ≡ true → (a ≡ true) ⊎ (b ≡ true)
 either true b e = inl refl
 either false b e = inr e
 
@@ -19,7 +19,7 @@ first : (a b : Bool) → (a && b) ≡ true → a ≡ true
 first true b e = refl
 first false b e = absurd (cc)
 
-second : (a b : Bool) → (a && b) ≡ true → b ≡ true
+pub second : (a b : Bool) → (a && b) ≡ true → b ≡ true
 second true b e = e
 second false b e = absurd (cc)
 

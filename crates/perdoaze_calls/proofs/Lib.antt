@@ -6,3 +6,5 @@ pub mod Listing
 pub mod Encryptions
 pub mod Chained
 pub mod Making
+pub mod Single
+pub mod Overs

@@ -2,6 +2,7 @@ pub mod Infos
 pub mod Laws
 pub mod Many
 pub mod Names
+pub mod Over
 pub mod Pieces
 pub mod Requests
 pub mod Settings

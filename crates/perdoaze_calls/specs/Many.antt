@@ -4,7 +4,7 @@ use Rattle.jobs_in_step.specs.Steps.{takes_associated}
 use Rattle.jobs_in_step.specs.declared.keys.StepKey.{StepKey}
 use Rattle.perdoaze_calls.specs.Requests.{EncryptsWithin, OnPlaceTo}
 use Rattle.perdoaze_calls.specs.declared.encryption.Encryption.{Encryption}
-use Rattle.perdoaze_calls.specs.declared.pieces.PieceMut.{PieceMut}
+use Rattle.piece_modes.specs.declared.piece.PieceMut.{PieceMut}
 use Rattle.perdoaze_calls.specs.declared.transform.Transform.{Transform}
 
 -- of encryption i

@@ -2,15 +2,17 @@
 
 ghost use Rattle.std.specs.Prelude.{◌≡◌, ◌<◌, ℕ, length, map, None};
 ghost use Rattle.perdoaze_calls.specs.Many.{CameTo, question_of};
-ghost use Rattle.perdoaze_calls.specs.Pieces.{text_in, text_over, size_of};
+ghost use Rattle.perdoaze_calls.specs.Pieces.{text_in};
+ghost use Rattle.piece_modes.specs.Pieces.{text_over, size_of};
 ghost use Rattle.perdoaze_calls.specs.Requests.{Encrypts, Decrypts, EncryptsWithin, DecryptsWithin, Digests, OnPlace, OrNoMemory};
 ghost use Rattle.perdoaze_calls.specs.Settings.{KeySet, SizeSet, Duplicates};
 
 use crate::encryption::Encryption;
 use crate::many::refuse_each;
-use crate::pieces::{Piece, PieceMut};
+use crate::pieces::Piece;
 use crate::slot::Slot;
 use crate::status::Status;
+use piece_modes::PieceMut;
 use std::alloc::Global;
 
 /// Encrypts.

@@ -4,16 +4,16 @@ ghost use Rattle.std.specs.Prelude.{◌≡◌, ◌<◌, ◌≤◌, ◌+◌, ◌^
 ghost use Rattle.in_step.specs.Pieces.{piece};
 ghost use Rattle.jobs_in_step.specs.Steps.{tag_room};
 ghost use Rattle.perdoaze_calls.specs.Many.{CameTo, FitsInStep, question_of, iv_in, aad_in, len_in, written_in, status_in, bytes_in};
-ghost use Rattle.perdoaze_calls.specs.Pieces.{size_of};
+ghost use Rattle.piece_modes.specs.Pieces.{size_of};
 ghost use Rattle.perdoaze_calls.specs.Requests.{EncryptsWithin};
 ghost use Rattle.perdoaze_calls.specs.Status.{code_of};
 ghost use Rattle.perdoaze_calls.specs.Under.{key_within};
 
 use crate::encryption::Encryption;
-use crate::pieces::PieceMut;
 use crate::status::Status;
 use crate::transform::Transform;
 use jobs_in_step::{StepKey, seal_fronts, step_key};
+use piece_modes::PieceMut;
 use transforms::Keyed;
 
 /// Answers one request in its buffer.

@@ -1,34 +1,17 @@
 //! Texts in pieces.
 
 ghost use Rattle.std.specs.Prelude.{◌≡◌, ◌≤◌, ◌<◌, ◌^◌, ◌+◌, ◌++◌, length, map, take, drop, IsTrue, IsFalse, MatchOption, IfOk};
-ghost use Rattle.perdoaze_calls.specs.Pieces.{text_in, text_over, size_of, most_on_stack};
+ghost use Rattle.perdoaze_calls.specs.Pieces.{text_in, most_on_stack};
+ghost use Rattle.piece_modes.specs.Pieces.{text_over, size_of};
 
 use crate::requests::copy_front;
-use in_step::Text;
+use piece_modes::PieceMut;
 use std::alloc::{AllocError, Global};
 
 /// A piece of a text, as POSIX's `struct iovec`.
 #[repr(C)]
 pub struct Piece<'a> {
     pub bytes: &'a [u8],
-}
-
-/// A piece of a text that is changed in its place: a `struct iovec`, too.
-#[repr(C)]
-pub struct PieceMut<'a> {
-    pub bytes: &'a mut [u8],
-}
-
-impl Text for PieceMut<'_> {
-    ghost bytes_of = { λ p. p.bytes.now };
-
-    fn bytes(&self) -> &[u8] {
-        self.bytes
-    }
-
-    fn write(&mut self, at: usize, from: &[u8]) {
-        self.bytes[at..at + from.len()].copy_from_slice(from);
-    }
 }
 
 /// How many bytes the pieces have together, where they are fewer than 2^32.
@@ -87,6 +70,20 @@ pub fn are_few(pieces: &[PieceMut<'_>]) -> bool
         left -= piece.bytes.len();
     }
     true
+}
+
+/// Whether the pieces have `size` bytes together, or more.
+pub fn have(pieces: &[PieceMut<'_>], size: usize) -> bool
+    ensures { IsTrue result → size ≤ length (text_over pieces.now) }
+{
+    let mut left = size;
+    for piece in pieces {
+        if piece.bytes.len() >= left {
+            return true;
+        }
+        left -= piece.bytes.len();
+    }
+    left == 0
 }
 
 /// Copies the bytes of all pieces to the front of `into`. How many there are.

@@ -448,8 +448,8 @@ impl Transform {
         Ok(n)
     }
 
-    /// As [`Transform::encrypt_in_place`], where the buffer lies in pieces. All of them are copied:
-    /// where they have more than 4,160 bytes together, it takes memory for that (`ENOMEM`).
+    /// As [`Transform::encrypt_in_place`], where the buffer lies in pieces. Several are copied:
+    /// where they have more than 4,160 bytes together, it takes memory for that (`ENOMEM`), but under GCM.
     pub fn encrypt_vectored_in_place(
         &mut self,
         iv: &[u8],
@@ -474,8 +474,8 @@ impl Transform {
         Ok(written)
     }
 
-    /// As [`Transform::decrypt_in_place`], where the buffer lies in pieces. All of them are copied:
-    /// where they have more than 4,160 bytes together, it takes memory for that (`ENOMEM`).
+    /// As [`Transform::decrypt_in_place`], where the buffer lies in pieces. Several are copied:
+    /// where they have more than 4,160 bytes together, it takes memory for that (`ENOMEM`), but under GCM.
     pub fn decrypt_vectored_in_place(
         &mut self,
         iv: &[u8],

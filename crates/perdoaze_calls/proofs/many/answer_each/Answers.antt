@@ -2,9 +2,9 @@ use Rattle.std.proofs.Common.{◌≡◌, ◌∙◌, ◌<◌, [], pos, arith, inl
 use Rattle.std.proofs.lemmas.Bool.{cases_lt}
 use Rattle.std.proofs.Math.Seq.{map-set_same}
 use Rattle.perdoaze_calls.specs.Many.{question_of}
-use Rattle.perdoaze_calls.specs.Pieces.{size_of}
+use Rattle.piece_modes.specs.Pieces.{size_of}
 use Rattle.perdoaze_calls.specs.declared.encryption.Encryption.{Encryption}
-use Rattle.perdoaze_calls.specs.declared.pieces.PieceMut.{PieceMut}
+use Rattle.piece_modes.specs.declared.piece.PieceMut.{PieceMut}
 use Rattle.perdoaze_calls.proofs.Encryptions.{field_at, field_set, field_others, iv_kept, aad_kept, len_kept, came_stays, came_now}
 use Rattle.perdoaze_calls.proofs.many.answer_each.Goals as goal
 

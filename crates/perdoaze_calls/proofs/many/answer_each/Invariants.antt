@@ -1,6 +1,6 @@
 use Rattle.std.proofs.Common.{◌≡◌, ◌<◌, ◌≤◌, ℕ, Some, length, map}
 use Rattle.perdoaze_calls.specs.Many.{CameTo, question_of, bytes_in}
-use Rattle.perdoaze_calls.specs.Pieces.{size_of}
+use Rattle.piece_modes.specs.Pieces.{size_of}
 use Rattle.perdoaze_calls.proofs.many.answer_each.Given as goal
 
 abbrev pub invariant-loop-i : goal.invariant-loop-i

@@ -1,5 +1,5 @@
 use Rattle.std.proofs.Common.{◌≡◌, ◌+◌, length, drop}
-use Rattle.perdoaze_calls.specs.Pieces.{text_over}
+use Rattle.piece_modes.specs.Pieces.{text_over}
 use Rattle.perdoaze_calls.proofs.pieces.are_few.Given as goal
 
 abbrev pub invariant-loop-piece : goal.invariant-loop-piece

@@ -1,5 +1,5 @@
 use Rattle.std.proofs.Common.{◌≡◌, ◌++◌, drop}
-use Rattle.perdoaze_calls.specs.Pieces.{text_over}
+use Rattle.piece_modes.specs.Pieces.{text_over}
 use Rattle.perdoaze_calls.proofs.pieces.joined_over.Given as goal
 
 -- the bytes so far and those that are left are all
