@@ -8,3 +8,4 @@ pub mod Answered
 pub mod Endings
 pub mod Statuses
 pub mod WithWorkers
+pub mod Faults

@@ -13,6 +13,7 @@ ghost use Rattle.script_session.specs.PerformedDialogue.{StopsIn};
 ghost use Rattle.script_session.specs.Replies.{IsReady, Replies};
 ghost use Rattle.script_session.specs.EndOfInput.{AnswersEnd, EndsShut};
 ghost use Rattle.script_run.specs.Text.{is_malformed};
+ghost use Rattle.script_run.specs.Faults.{TellsFaults};
 ghost use Rattle.script_run.specs.Laws.{Laws};
 ghost use Rattle.script_run.specs.Answered.{RunsSource};
 ghost use Rattle.script_run.specs.Runs.{Writes, Cuts, Breaks, AnswersAndShuts, IsFresh, IsUnshutOrEnds};
@@ -206,10 +207,7 @@ fn run_read<S: Source, K: Sink, G: Gate, R: Threads + Wait + Sync>(
     requires fresh { IsFresh session.old }
     requires unread { reader.old ≡ record { kept = record { begun = Some []; unseen = [] }; room = 268435456; ended = false } }
     ensures run { RunsSource (S.left src.old) (S.left src.new) session.old session.new result (K.held out.old) (K.held out.new) }
-    ensures read_fault { IsErrOf result RunError.ReadFault → Rose (S.faults src.old) (S.faults src.new) }
-    ensures write_fault { IsErrOf result RunError.WriteFault → Rose (K.faults out.old) (K.faults out.new) }
-    ensures later { K.faults out.old ≤ K.faults out.new }
-    ensures usage { IsErrOf result RunError.Usage → ⊥ }
+    ensures faults { TellsFaults result (S.faults src.old) (S.faults src.new) (K.faults out.old) (K.faults out.new) }
 {
     laws();
     whole_lines_stay();
@@ -242,10 +240,7 @@ pub fn run_lines<S: Source, K: Sink, G: Gate, R: Threads + Wait + Sync>(
     requires ready { IsReady registry.now board.now session.old }
     requires fresh { IsFresh session.old }
     ensures run { RunsSource (S.left src.old) (S.left src.new) session.old session.new result (K.held out.old) (K.held out.new) }
-    ensures read_fault { IsErrOf result RunError.ReadFault → Rose (S.faults src.old) (S.faults src.new) }
-    ensures write_fault { IsErrOf result RunError.WriteFault → Rose (K.faults out.old) (K.faults out.new) }
-    ensures later { K.faults out.old ≤ K.faults out.new }
-    ensures usage { IsErrOf result RunError.Usage → ⊥ }
+    ensures faults { TellsFaults result (S.faults src.old) (S.faults src.new) (K.faults out.old) (K.faults out.new) }
 {
     laws();
     let mut reader = LineReader::new(alloc, MAX_INPUT)?;

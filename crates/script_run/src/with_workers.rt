@@ -1,16 +1,16 @@
 //! A whole script beside workers.
 
-ghost use Rattle.std.specs.Prelude.{◌≡◌, ◌≤◌, [], Err, true, IfOk, IsErrOf};
+ghost use Rattle.std.specs.Prelude.{◌≡◌, ◌≤◌, [], Err, true, IfOk};
 ghost use Rattle.board.specs.Entries.{caller_of};
 ghost use Rattle.board.specs.Legal.{is_shut};
 ghost use Rattle.crew.specs.Both.{ArePassesOn, HaveNext, CrewedOnBoth};
-ghost use Rattle.kc_base.specs.Streams.{Rose};
 ghost use Rattle.script_session.specs.PerformedDialogue.{HasSeenMore};
 ghost use Rattle.shared_board.specs.Passes.{IsPassOn};
 ghost use Rattle.turn_lock.specs.PassLaws.{IsOwn};
 ghost use Rattle.turn_lock.specs.Passes.{knows};
 ghost use Rattle.turn_lock.specs.Turns.{fresh_pass};
 ghost use Rattle.script_run.specs.Answered.{AnswersSource, ShutsAlone};
+ghost use Rattle.script_run.specs.Faults.{TellsFaults};
 ghost use Rattle.script_run.specs.WithWorkers.{ScriptRan};
 ghost use Rattle.script_run.specs.Laws.{CrewLaws};
 ghost use Rattle.script_run.specs.Runs.{OthersFollow, AreNew, IsUnshutOrEnds, WasShut};
@@ -101,10 +101,7 @@ fn answer_script<S: Source, K: Sink, G: Gate, R: Threads + Wait + Sync>(
     requires new { AreNew passes }
     ensures lock { ArePassesOn board.now registry.now result.0 }
     ensures answers { AnswersSource workers (S.left src.old) (S.left src.new) passes result.0 result.1 (K.held out.old) (K.held out.new) }
-    ensures read_fault { IsErrOf result.1 RunError.ReadFault → Rose (S.faults src.old) (S.faults src.new) }
-    ensures write_fault { IsErrOf result.1 RunError.WriteFault → Rose (K.faults out.old) (K.faults out.new) }
-    ensures later { K.faults out.old ≤ K.faults out.new }
-    ensures usage { IsErrOf result.1 RunError.Usage → ⊥ }
+    ensures faults { TellsFaults result.1 (S.faults src.old) (S.faults src.new) (K.faults out.old) (K.faults out.new) }
 {
     laws();
     let Passes {
@@ -140,10 +137,7 @@ fn script_with_workers<S: Source, K: Sink, G: Gate + Sync, R: Threads + Wait + S
     ensures crewed { (p q : _) × HaveNext workers passes p
         × AnswersSource workers (S.left src.old) (S.left src.new) p q result.1 (K.held out.old) (K.held out.new)
         × CrewedOnBoth workers passes q result.0 }
-    ensures read_fault { IsErrOf result.1 RunError.ReadFault → Rose (S.faults src.old) (S.faults src.new) }
-    ensures write_fault { IsErrOf result.1 RunError.WriteFault → Rose (K.faults out.old) (K.faults out.new) }
-    ensures later { K.faults out.old ≤ K.faults out.new }
-    ensures usage { IsErrOf result.1 RunError.Usage → ⊥ }
+    ensures faults { TellsFaults result.1 (S.faults src.old) (S.faults src.new) (K.faults out.old) (K.faults out.new) }
 {
     let mut main = |passes: Passes<Ask>| -> (Passes<Ask>, Result<bool, RunError>)
         requires lock { ArePassesOn board.now registry.now passes }
@@ -170,10 +164,7 @@ fn run_with_workers<S: Source, K: Sink, G: Gate + Sync, R: Threads + Wait + Sync
     requires first { (knows passes.board ≡ fresh_pass) × (knows passes.registry ≡ fresh_pass) }
     ensures ran { ScriptRan workers (S.left src.old) (S.left src.new)
         result.registry result.board result.answer (K.held out.old) (K.held out.new) }
-    ensures read_fault { IsErrOf result.answer RunError.ReadFault → Rose (S.faults src.old) (S.faults src.new) }
-    ensures write_fault { IsErrOf result.answer RunError.WriteFault → Rose (K.faults out.old) (K.faults out.new) }
-    ensures later { K.faults out.old ≤ K.faults out.new }
-    ensures usage { IsErrOf result.answer RunError.Usage → ⊥ }
+    ensures faults { TellsFaults result.answer (S.faults src.old) (S.faults src.new) (K.faults out.old) (K.faults out.new) }
 {
     crew_laws();
     settled_scripts_print_plain();
@@ -218,10 +209,7 @@ pub fn run_script<S: Source, K: Sink, G: Gate + Sync, R: Threads + Wait + Sync>(
     requires few { workers ≤ 16 }
     ensures ran { ScriptRan workers (S.left src.old) (S.left src.new)
         result.registry result.board result.answer (K.held out.old) (K.held out.new) }
-    ensures read_fault { IsErrOf result.answer RunError.ReadFault → Rose (S.faults src.old) (S.faults src.new) }
-    ensures write_fault { IsErrOf result.answer RunError.WriteFault → Rose (K.faults out.old) (K.faults out.new) }
-    ensures later { K.faults out.old ≤ K.faults out.new }
-    ensures usage { IsErrOf result.answer RunError.Usage → ⊥ }
+    ensures faults { TellsFaults result.answer (S.faults src.old) (S.faults src.new) (K.faults out.old) (K.faults out.new) }
 {
     nothing_is_broken_off();
     let Ok((board, registry, passes)) = first_locks(alloc) else {
