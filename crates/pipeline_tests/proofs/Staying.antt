@@ -1,13 +1,11 @@
 -- What a caller knows of a board after a call, by the board's laws.
-use Rattle.std.proofs.Common.{◌≡◌, ◌≢◌, ℕ, Bool, true, false, refl, Option, Some, None, List, [], ◌∷◌, ◌++◌, ◌⊎◌, inl, inr, subst}
+use Rattle.std.proofs.Common.{◌≡◌, ◌≢◌, ℕ, Bool, true, false, List, [], ◌∷◌, ◌++◌, ◌⊎◌, inl, inr, subst}
 use Rattle.std.specs.Prelude.{Result, Ok, Err, MatchResult, MatchBool}
 use Rattle.board.specs.declared.entry.Shape.{Shape}
-use Rattle.board.specs.declared.entry.Shape.TheVariants.{Pad, Queue, Chain}
 use Rattle.board.specs.declared.entry.BoardEntry.{BoardEntry}
 use Rattle.board.specs.declared.entry.BoardEntry.TheVariants.{Born}
-use Rattle.board.specs.Shapes.{is_pad, has_queue, is_born}
-use Rattle.board.specs.Entries.{entries_of, birth, is_close, caller_of}
-use Rattle.board.specs.Legal.{IsOpenAs, IsOpen, MayFinish, LegalBoard}
+use Rattle.board.specs.Entries.{entries_of, is_close, caller_of}
+use Rattle.board.specs.Legal.{MayFinish, LegalBoard}
 use Rattle.board.specs.PipelineHistory.{Opens, StaysOpen, StaysManaged, SlipStays, IsOpenFor}
 
 -- the history of a board after a call that appends one entry or none
@@ -22,21 +20,6 @@ drained old new e (Err x) h = inr h
 pub done : {X T E : Type 0} (old new : List X) (e : X) (r : Result T E) → MatchResult r (λ _. new ≡ old ++ e ∷ []) (λ _. new ≡ old) → MayAppend old new e
 done old new e (Ok t) h = inl h
 done old new e (Err x) h = inr h
-
--- each shape is a pad's, or has a queue in front
-is_one : (such : Shape → Bool) (birth : Option (ℕ × Shape)) → is_born such birth ≡ true → (is_born is_pad birth ≡ true) ⊎ (is_born has_queue birth ≡ true)
-is_one such (Some (maker, Pad lists)) h = inl refl
-is_one such (Some (maker, Queue max)) h = inr refl
-is_one such (Some (maker, Chain max lists)) h = inr refl
-is_one such None h = cc
-
-with_both : {P Q R : Type 0} → R → P ⊎ Q → (P × R) ⊎ (Q × R)
-with_both r (inl p) = inl (p, r)
-with_both r (inr q) = inr (q, r)
-
--- what is open of some shape is open
-pub is_open : {A : Type 0} (such : Shape → Bool) (es : List (BoardEntry A)) → IsOpenAs such es → IsOpen es
-is_open such es o = with_both o.1 (is_one such (birth es) o.0)
 
 module _ {A : Type 0} (such : Shape → Bool) (born : (h : List (BoardEntry A)) (caller p : ℕ) (shape : Shape) → Opens such h caller p shape) where
   pub open_at_birth : (old new : List (BoardEntry A)) (caller p : ℕ) (shape : Shape) → new ≡ old ++ Born caller p shape ∷ [] → LegalBoard new → such shape ≡ true → IsOpenFor such new p caller

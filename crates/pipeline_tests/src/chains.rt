@@ -6,11 +6,11 @@ ghost use Rattle.board.specs.Legal.{MayFinish};
 ghost use Rattle.board.specs.Shapes.{has_queue};
 ghost use Rattle.board.specs.PipelineHistory.{IsOpenFor};
 
-use crate::echo::{Echo, Said, new_board, yes_or_no};
-use crate::queues::Lines;
-use crate::shapes::{Shaped, play, poll, work};
+use crate::pads::{Echo, Said, new_board, saying, yes_or_no};
+use crate::queues::{go, hold, offer, poll, serve, written};
 use board::{BoardCore, BoardErr, Entered, Taken, Work, pipelines_stay, slips_stay};
 use kc_base::Callbacks;
+use std::alloc::Global;
 use std::process::Abort;
 
 /// Makes a chain of bound 2 over three lists.
@@ -41,7 +41,7 @@ fn work_around<W: Work>(board: &mut BoardCore<W>, pipe: u64)
     pipelines_stay::<W::Ask>();
     slips_stay::<W::Ask, W::Out>();
     if let Some(Taken { slip, job }) = board.take(2) {
-        work::<Lines, W>(board, 3, pipe);
+        serve(board, 3, pipe);
         let out = job.run();
         board.finish(2, slip, out);
     }
@@ -61,34 +61,44 @@ fn work_backwards<W: Work>(
         return Ok(());
     };
     work_around(board, pipe);
-    let polled = poll::<Lines, W>(board, pipe, into);
+    let polled = poll(board, pipe, into);
     let out = job.run();
     board.finish(1, slip, out);
     polled
 }
 
-/// A chain, played by the steps of a queue and its own.
-struct Chains;
-
-impl Shaped for Chains {
-    ghost use Rattle.board.specs.Shapes.{has_queue};
-
-    ghost such = { has_queue };
-
-    /// `p` is a passing on, `!` three workers that end in the other order, and any other a step on a queue.
-    fn step(
-        board: &mut BoardCore<Echo>,
-        pipe: u64,
-        into: &mut Callbacks<char>,
-        step: char,
-    ) -> Result<Said, BoardErr> {
-        match step {
-            'p' => Ok(yes_or_no(pass(board, pipe))),
-            '!' => {
-                work_backwards(board, pipe, into)?;
-                Ok(Said::Told(into.as_slice().len()))
-            }
-            other => Lines::step(board, pipe, into, other),
+/// One step on a chain: `h` a hold, `g` a go, `p` a passing on, `!` three workers that end in the other order, `.` a
+/// poll, and any other letter a request, a great one with leave to wait in the backlog.
+fn chain_step(
+    board: &mut BoardCore<Echo>,
+    pipe: u64,
+    into: &mut Callbacks<char>,
+    step: char,
+) -> Result<Said, BoardErr>
+    requires { IsOpenFor has_queue board.old pipe 0 }
+    ensures { IsOpenFor has_queue board.new pipe 0 }
+{
+    match step {
+        'h' => {
+            hold(board, pipe)?;
+            Ok(Said::Yes)
+        }
+        'g' => {
+            go(board, pipe)?;
+            Ok(Said::Yes)
+        }
+        'p' => Ok(yes_or_no(pass(board, pipe))),
+        '!' => {
+            work_backwards(board, pipe, into)?;
+            Ok(Said::Told(into.as_slice().len()))
+        }
+        '.' => {
+            poll(board, pipe, into)?;
+            Ok(Said::Told(into.as_slice().len()))
+        }
+        letter => {
+            let answer = offer(board, 0, pipe, saying(letter, 1), letter < 'a')?;
+            Ok(Said::Entered(answer))
         }
     }
 }
@@ -98,6 +108,18 @@ fn open_chain(rt: &impl Abort, board: &mut BoardCore<Echo>) -> u64
     ensures { IsOpenFor has_queue board.new result 0 }
 {
     make(board).expect(rt, "memory")
+}
+
+/// Steps on a new chain answer as their table says; the callbacks that were handed out.
+fn play(rt: &impl Abort, alloc: Global, steps: &[(char, Said)]) -> Vec<(u64, char)> {
+    let mut board = new_board(rt, alloc);
+    let mut into = Callbacks::new(alloc);
+    let pipe = open_chain(rt, &mut board);
+    for (step, want) in steps {
+        let said = chain_step(&mut board, pipe, &mut into, *step);
+        assert!(rt; said == Ok(*want), "{step}");
+    }
+    written(rt, alloc, &into)
 }
 
 // While the first job runs, `started` of the third request alone was told.
@@ -119,9 +141,7 @@ const STEPS: [(char, Said); 13] = [
 
 #[test]
 fn a_chain_completes_in_order_what_ends_backwards(rt: HostRuntime) {
-    let mut board = new_board(&rt, rt.alloc());
-    let chain = open_chain(&rt, &mut board);
-    let told = play::<Chains>(&rt, rt.alloc(), &mut board, chain, &STEPS);
+    let told = play(&rt, rt.alloc(), &STEPS);
     let want = [(2, '-'), (0, 'a'), (1, 'b'), (2, 'C')];
     assert!(rt; told.as_slice() == want.as_slice());
 }

@@ -8,8 +8,6 @@ mod bounded_queue;
 #[cfg(test)]
 mod chains;
 #[cfg(test)]
-mod echo;
-#[cfg(test)]
 mod pads;
 #[cfg(test)]
 mod queues;
@@ -17,5 +15,3 @@ mod queues;
 mod reorder_lists;
 #[cfg(test)]
 mod served_queue;
-#[cfg(test)]
-mod shapes;

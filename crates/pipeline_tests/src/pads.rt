@@ -1,15 +1,62 @@
 //! A pad on a board.
 
-ghost use Rattle.std.specs.Prelude.{IfOk};
-ghost use Rattle.board.specs.Legal.{IsNoWorker};
+ghost use Rattle.std.specs.Prelude.{◌≡◌, ◌≢◌, ℕ, [], IfOk};
+ghost use Rattle.board.specs.Entries.{entries_of};
+ghost use Rattle.board.specs.Legal.{IsNoWorker, MayFinish};
 ghost use Rattle.board.specs.Shapes.{is_pad};
 ghost use Rattle.board.specs.PipelineHistory.{IsOpenFor};
 
-use crate::echo::{Echo, Letter, Said, new_board, saying, yes_or_no};
-use crate::shapes::{Shaped, drain, play, step_any, work};
-use board::{BoardCore, BoardErr, BoardLog, Taken, Work, pipelines_stay};
-use kc_base::Callbacks;
+use board::{BoardCore, BoardErr, BoardLog, Entered, Taken, Work, pipelines_stay, slips_stay};
+use kc_base::{Callback, Callbacks};
+use std::alloc::{AllocError, Global};
 use std::process::Abort;
+use std::sync::Arc;
+
+/// What is asked: a letter to be said again, for so many bytes of the allowance.
+#[derive(Debug, Drop)]
+pub(crate) struct Letter {
+    letter: char,
+    bytes: u64,
+}
+
+/// A job that says its letter again.
+#[derive(Drop)]
+pub(crate) struct Echo {
+    letter: char,
+    bytes: u64,
+}
+
+impl Work for Echo {
+    type Ask = Letter;
+
+    type Out = char;
+
+    ghost asked = { λ job. record { letter = job.letter; bytes = job.bytes } };
+
+    ghost meaning = { λ ask. ask.letter };
+
+    ghost weight = { λ ask. ask.bytes };
+
+    fn ask(&self, alloc: Global) -> Result<Arc<Letter, Global>, AllocError> {
+        let letter = Letter {
+            letter: self.letter,
+            bytes: self.bytes,
+        };
+        Ok(Arc::new(alloc, letter)?)
+    }
+
+    fn size(&self) -> u64 {
+        self.bytes
+    }
+
+    fn run(self) -> char {
+        self.letter
+    }
+}
+
+pub(crate) fn saying(letter: char, bytes: u64) -> Echo {
+    Echo { letter, bytes }
+}
 
 /// Makes a pad.
 fn make<W: Work>(board: &mut BoardCore<W>, caller: u32) -> Result<u64, BoardErr>
@@ -36,6 +83,54 @@ fn submit<W: Work>(
     Ok(number)
 }
 
+/// Takes a job, runs it and finishes it, if there is one. The jobs that others took stay theirs.
+fn work<W: Work>(board: &mut BoardCore<W>, worker: u32, pipe: u64) -> bool
+    requires { IsOpenFor is_pad board.old pipe 0 }
+    ensures open { IsOpenFor is_pad board.new pipe 0 }
+    ensures others { (other p n : ℕ) (out : W.Out) → worker ≢ other → MayFinish W.meaning (entries_of p board.old) other n out
+        → MayFinish W.meaning (entries_of p board.new) other n out }
+{
+    pipelines_stay::<W::Ask>();
+    slips_stay::<W::Ask, W::Out>();
+    match board.take(worker) {
+        Some(Taken { slip, job }) => {
+            let out = job.run();
+            board.finish(worker, slip, out);
+            true
+        }
+        None => false,
+    }
+}
+
+/// Hands out what is done, where all is. The jobs that workers took stay theirs.
+fn drain<W: Work>(
+    board: &mut BoardCore<W>,
+    pipe: u64,
+    into: &mut Callbacks<W::Out>,
+) -> Result<bool, BoardErr>
+    requires { IsOpenFor is_pad board.old pipe 0 }
+    ensures open { IsOpenFor is_pad board.new pipe 0 }
+    ensures others { (other p n : ℕ) (out : W.Out) → 0 ≢ other → MayFinish W.meaning (entries_of p board.old) other n out
+        → MayFinish W.meaning (entries_of p board.new) other n out }
+{
+    pipelines_stay::<W::Ask>();
+    slips_stay::<W::Ask, W::Out>();
+    board.try_drain(0, pipe, into)
+}
+
+/// Hands out what is done up to the first request that isn't.
+fn poll<W: Work>(
+    board: &mut BoardCore<W>,
+    pipe: u64,
+    into: &mut Callbacks<W::Out>,
+) -> Result<(), BoardErr>
+    requires { IsOpenFor is_pad board.old pipe 0 }
+    ensures { IsOpenFor is_pad board.new pipe 0 }
+{
+    pipelines_stay::<W::Ask>();
+    board.poll(0, pipe, into)
+}
+
 /// Two workers take a job each, and the second finishes first. Answers whether the pad was drained before the first had
 /// finished.
 fn second_first<W: Work>(
@@ -50,35 +145,67 @@ fn second_first<W: Work>(
     let Some(first) = board.take(1) else {
         return Ok(true);
     };
-    work::<Pads, W>(board, 2, pipe);
-    let early = drain::<Pads, W>(board, pipe, into);
+    work(board, 2, pipe);
+    let early = drain(board, pipe, into);
     let Taken { slip, job } = first;
     let out = job.run();
     board.finish(1, slip, out);
     early
 }
 
-/// A pad alone.
-struct Pads;
-
-impl Shaped for Pads {
-    ghost use Rattle.board.specs.Shapes.{is_pad};
-
-    ghost such = { is_pad };
-
-    /// `!` is two workers that end in the other order, and a letter a request.
-    fn step(
-        board: &mut BoardCore<Echo>,
-        pipe: u64,
-        into: &mut Callbacks<char>,
-        step: char,
-    ) -> Result<Said, BoardErr> {
-        match step {
-            '1' | '?' | '.' => step_any::<Pads>(board, pipe, into, step),
-            '!' => Ok(yes_or_no(second_first(board, pipe, into)?)),
-            letter => Ok(Said::Number(submit(board, 0, pipe, saying(letter, 1))?)),
+/// The completions of a list: numbers with letters.
+fn letters(rt: &impl Abort, alloc: Global, callbacks: &Callbacks<char>) -> Vec<(u64, char)> {
+    let mut found = Vec::new(alloc);
+    for callback in callbacks.as_slice() {
+        if let Callback::Done(number, letter) = callback {
+            found.push((*number, *letter)).expect(rt, "memory");
         }
     }
+    found
+}
+
+/// What a step of a table answers.
+#[derive(Clone, Copy, PartialEq, Eq)]
+pub(crate) enum Said {
+    Number(u64),
+    Entered(Entered),
+    Yes,
+    No,
+    /// How many callbacks were handed out so far.
+    Told(usize),
+}
+
+pub(crate) fn yes_or_no(yes: bool) -> Said {
+    if yes { Said::Yes } else { Said::No }
+}
+
+/// One step on a pad: a digit is a worker that does a job, `!` two that end in the other order, `?` a drain, `.` a
+/// poll, and any other letter a request.
+fn pad_step(
+    board: &mut BoardCore<Echo>,
+    pipe: u64,
+    into: &mut Callbacks<char>,
+    step: char,
+) -> Result<Said, BoardErr>
+    requires { IsOpenFor is_pad board.old pipe 0 }
+    ensures { IsOpenFor is_pad board.new pipe 0 }
+{
+    match step {
+        '1' => Ok(yes_or_no(work(board, 1, pipe))),
+        '!' => Ok(yes_or_no(second_first(board, pipe, into)?)),
+        '?' => Ok(yes_or_no(drain(board, pipe, into)?)),
+        '.' => {
+            poll(board, pipe, into)?;
+            Ok(Said::Told(into.as_slice().len()))
+        }
+        letter => Ok(Said::Number(submit(board, 0, pipe, saying(letter, 1))?)),
+    }
+}
+
+pub(crate) fn new_board(rt: &impl Abort, alloc: Global) -> BoardCore<Echo>
+    ensures { result ≡ [] }
+{
+    BoardCore::new(alloc).expect(rt, "memory")
 }
 
 /// Makes the pad of a test.
@@ -87,6 +214,18 @@ fn open_pad(rt: &impl Abort, board: &mut BoardCore<Echo>, caller: u32) -> u64
     ensures { IsOpenFor is_pad board.new result caller }
 {
     make(board, caller).expect(rt, "memory")
+}
+
+/// Steps on a new pad answer as their table says; the completions that were handed out.
+fn play(rt: &impl Abort, alloc: Global, steps: &[(char, Said)]) -> Vec<(u64, char)> {
+    let mut board = new_board(rt, alloc);
+    let mut into = Callbacks::new(alloc);
+    let pipe = open_pad(rt, &mut board, 0);
+    for (step, want) in steps {
+        let said = pad_step(&mut board, pipe, &mut into, *step);
+        assert!(rt; said == Ok(*want), "{step}");
+    }
+    letters(rt, alloc, &into)
 }
 
 const DRAINED: [(char, Said); 9] = [
@@ -103,9 +242,7 @@ const DRAINED: [(char, Said); 9] = [
 
 #[test]
 fn completions_come_in_the_order_of_requests(rt: HostRuntime) {
-    let mut board = new_board(&rt, rt.alloc());
-    let pad = open_pad(&rt, &mut board, 0);
-    let said = play::<Pads>(&rt, rt.alloc(), &mut board, pad, &DRAINED);
+    let said = play(&rt, rt.alloc(), &DRAINED);
     assert!(rt; said.as_slice() == [(0, 'a'), (1, 'b'), (2, 'c')].as_slice());
 }
 
@@ -123,9 +260,7 @@ const POLLED: [(char, Said); 9] = [
 
 #[test]
 fn a_poll_hands_out_what_is_ready(rt: HostRuntime) {
-    let mut board = new_board(&rt, rt.alloc());
-    let pad = open_pad(&rt, &mut board, 0);
-    let said = play::<Pads>(&rt, rt.alloc(), &mut board, pad, &POLLED);
+    let said = play(&rt, rt.alloc(), &POLLED);
     assert!(rt; said.as_slice() == [(0, 'a'), (1, 'b')].as_slice());
 }
 

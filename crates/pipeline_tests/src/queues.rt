@@ -1,14 +1,14 @@
 //! A queue on a board.
 
-ghost use Rattle.std.specs.Prelude.{◌≤◌, IfOk};
-ghost use Rattle.board.specs.Legal.{IsNoWorker};
+ghost use Rattle.std.specs.Prelude.{◌≢◌, ℕ, ◌≤◌, IfOk};
+ghost use Rattle.board.specs.Entries.{entries_of};
+ghost use Rattle.board.specs.Legal.{IsNoWorker, MayFinish};
 ghost use Rattle.board.specs.Shapes.{has_queue};
 ghost use Rattle.board.specs.PipelineHistory.{IsOpenFor};
 
-use crate::echo::{Echo, Said, new_board, saying, yes_or_no};
-use crate::shapes::{Shaped, play, step_any, work};
-use board::{BoardCore, BoardErr, Entered, Taken, Work, pipelines_stay};
-use kc_base::Callbacks;
+use crate::pads::{Echo, Said, new_board, saying, yes_or_no};
+use board::{BoardCore, BoardErr, Entered, Taken, Work, pipelines_stay, slips_stay};
+use kc_base::{Callback, Callbacks};
 use std::alloc::Global;
 use std::process::Abort;
 
@@ -57,6 +57,54 @@ pub(crate) fn go<W: Work>(board: &mut BoardCore<W>, pipe: u64) -> Result<(), Boa
     board.go(0, pipe)
 }
 
+/// Takes a job, runs it and finishes it, if one may be taken. The jobs that others took stay theirs.
+pub(crate) fn serve<W: Work>(board: &mut BoardCore<W>, worker: u32, pipe: u64) -> bool
+    requires { IsOpenFor has_queue board.old pipe 0 }
+    ensures open { IsOpenFor has_queue board.new pipe 0 }
+    ensures others { (other p n : ℕ) (out : W.Out) → worker ≢ other → MayFinish W.meaning (entries_of p board.old) other n out
+        → MayFinish W.meaning (entries_of p board.new) other n out }
+{
+    pipelines_stay::<W::Ask>();
+    slips_stay::<W::Ask, W::Out>();
+    match board.take(worker) {
+        Some(Taken { slip, job }) => {
+            let out = job.run();
+            board.finish(worker, slip, out);
+            true
+        }
+        None => false,
+    }
+}
+
+/// Hands out what the queue told. The jobs that workers took stay theirs.
+pub(crate) fn poll<W: Work>(
+    board: &mut BoardCore<W>,
+    pipe: u64,
+    into: &mut Callbacks<W::Out>,
+) -> Result<(), BoardErr>
+    requires { IsOpenFor has_queue board.old pipe 0 }
+    ensures open { IsOpenFor has_queue board.new pipe 0 }
+    ensures others { (other p n : ℕ) (out : W.Out) → 0 ≢ other → MayFinish W.meaning (entries_of p board.old) other n out
+        → MayFinish W.meaning (entries_of p board.new) other n out }
+{
+    pipelines_stay::<W::Ask>();
+    slips_stay::<W::Ask, W::Out>();
+    board.poll(0, pipe, into)
+}
+
+/// Hands out what the queue told, where all is done.
+fn drain<W: Work>(
+    board: &mut BoardCore<W>,
+    pipe: u64,
+    into: &mut Callbacks<W::Out>,
+) -> Result<bool, BoardErr>
+    requires { IsOpenFor has_queue board.old pipe 0 }
+    ensures { IsOpenFor has_queue board.new pipe 0 }
+{
+    pipelines_stay::<W::Ask>();
+    board.try_drain(0, pipe, into)
+}
+
 /// One worker takes a job, and another looks for one before it is finished. Answers whether the other found one.
 fn serve_twice<W: Work>(board: &mut BoardCore<W>, pipe: u64) -> bool
     requires { IsOpenFor has_queue board.old pipe 0 }
@@ -66,47 +114,66 @@ fn serve_twice<W: Work>(board: &mut BoardCore<W>, pipe: u64) -> bool
     let Some(first) = board.take(1) else {
         return true;
     };
-    let found = work::<Lines, W>(board, 2, pipe);
+    let found = serve(board, 2, pipe);
     let Taken { slip, job } = first;
     let out = job.run();
     board.finish(1, slip, out);
     found
 }
 
-/// A queue, or a chain.
-pub(crate) struct Lines;
-
-impl Shaped for Lines {
-    ghost use Rattle.board.specs.Shapes.{has_queue};
-
-    ghost such = { has_queue };
-
-    /// `!` is two workers that serve at once, `h` a hold, `g` a go, a small letter else a request, and a great one a
-    /// request that may wait in the backlog.
-    fn step(
-        board: &mut BoardCore<Echo>,
-        pipe: u64,
-        into: &mut Callbacks<char>,
-        step: char,
-    ) -> Result<Said, BoardErr> {
-        match step {
-            '1' | '?' | '.' => step_any::<Lines>(board, pipe, into, step),
-            '!' => Ok(yes_or_no(serve_twice(board, pipe))),
-            'h' => {
-                hold(board, pipe)?;
-                Ok(Said::Yes)
-            }
-            'g' => {
-                go(board, pipe)?;
-                Ok(Said::Yes)
-            }
-            letter => {
-                let backlog = letter < 'a';
-                let answer = offer(board, 0, pipe, saying(letter, 1), backlog)?;
-                Ok(Said::Entered(answer))
-            }
+/// One step on a queue: a digit is a worker that serves, `!` two that serve at once, `?` a drain, `.` a poll, `h` a
+/// hold, `g` a go, a small letter else a request, and a great one a request that may wait in the backlog.
+fn queue_step(
+    board: &mut BoardCore<Echo>,
+    pipe: u64,
+    into: &mut Callbacks<char>,
+    step: char,
+) -> Result<Said, BoardErr>
+    requires { IsOpenFor has_queue board.old pipe 0 }
+    ensures { IsOpenFor has_queue board.new pipe 0 }
+{
+    match step {
+        '1' => Ok(yes_or_no(serve(board, 1, pipe))),
+        '!' => Ok(yes_or_no(serve_twice(board, pipe))),
+        '?' => Ok(yes_or_no(drain(board, pipe, into)?)),
+        '.' => {
+            poll(board, pipe, into)?;
+            Ok(Said::Told(into.as_slice().len()))
+        }
+        'h' => {
+            hold(board, pipe)?;
+            Ok(Said::Yes)
+        }
+        'g' => {
+            go(board, pipe)?;
+            Ok(Said::Yes)
+        }
+        letter => {
+            let backlog = letter < 'a';
+            let answer = offer(board, 0, pipe, saying(letter, 1), backlog)?;
+            Ok(Said::Entered(answer))
         }
     }
+}
+
+/// A callback's number, and its letter or `-`.
+fn pair_of(callback: &Callback<char>) -> (u64, char) {
+    match callback {
+        Callback::Started(number) => (*number, '-'),
+        Callback::Done(number, letter) => (*number, *letter),
+    }
+}
+
+pub(crate) fn written(
+    rt: &impl Abort,
+    alloc: Global,
+    callbacks: &Callbacks<char>,
+) -> Vec<(u64, char)> {
+    let mut found = Vec::new(alloc);
+    for callback in callbacks.as_slice() {
+        found.push(pair_of(callback)).expect(rt, "memory");
+    }
+    found
 }
 
 /// Makes the queue of a test.
@@ -115,6 +182,18 @@ fn open_queue(rt: &impl Abort, board: &mut BoardCore<Echo>, max: u32) -> u64
     ensures { IsOpenFor has_queue board.new result 0 }
 {
     make(board, 0, max).expect(rt, "memory")
+}
+
+/// Steps on a new queue of two answer as their table says; the callbacks that were handed out.
+fn play(rt: &impl Abort, alloc: Global, steps: &[(char, Said)]) -> Vec<(u64, char)> {
+    let mut board = new_board(rt, alloc);
+    let mut into = Callbacks::new(alloc);
+    let pipe = open_queue(rt, &mut board, 2);
+    for (step, want) in steps {
+        let said = queue_step(&mut board, pipe, &mut into, *step);
+        assert!(rt; said == Ok(*want), "{step}");
+    }
+    written(rt, alloc, &into)
 }
 
 const AT_ONCE: [(char, Said); 5] = [
@@ -127,9 +206,7 @@ const AT_ONCE: [(char, Said); 5] = [
 
 #[test]
 fn a_queue_serves_one_job_at_a_time(rt: HostRuntime) {
-    let mut board = new_board(&rt, rt.alloc());
-    let queue = open_queue(&rt, &mut board, 2);
-    let told = play::<Lines>(&rt, rt.alloc(), &mut board, queue, &AT_ONCE);
+    let told = play(&rt, rt.alloc(), &AT_ONCE);
     assert!(rt; told.as_slice() == [(0, 'a'), (1, 'b')].as_slice());
 }
 
@@ -156,9 +233,7 @@ const HELD: [(char, Said); 18] = [
 
 #[test]
 fn a_held_queue_tells_of_its_backlog_before_its_completions(rt: HostRuntime) {
-    let mut board = new_board(&rt, rt.alloc());
-    let queue = open_queue(&rt, &mut board, 2);
-    let told = play::<Lines>(&rt, rt.alloc(), &mut board, queue, &HELD);
+    let told = play(&rt, rt.alloc(), &HELD);
     let want = [(2, '-'), (0, 'a'), (1, 'b'), (2, 'C')];
     assert!(rt; told.as_slice() == want.as_slice());
 }

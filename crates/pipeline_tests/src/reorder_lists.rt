@@ -45,7 +45,8 @@ fn outcomes_come_in_the_order_of_submission(rt: HostRuntime) -> Result<(), Fail>
 
 // Five jobs that were all taken.
 fn five_taken(alloc: Global) -> Result<Padata<char, char>, Fail>
-    ensures { IfOk result (λ pad. (pad.lists ≡ 3) × (pad.collected ≡ 0) × (pad.outcomes ≡ None ∷ None ∷ None ∷ None ∷ None ∷ [])) }
+    ensures { IfOk result (λ pad. (pad.lists ≡ 3) × (pad.collected ≡ 0)
+        × (pad.outcomes ≡ None ∷ None ∷ None ∷ None ∷ None ∷ [])) }
 {
     let mut pad = Padata::new(alloc, 3)?;
     pad.reserve(5)?;
