@@ -58,7 +58,7 @@ ccm_tag n e =
     (one_more (n == 4) n 6 (lit≤ tt) (λ a. let x : n ≡ 4 = eqb-true n 4 a in omega (arith, x)))))))
     e
 
-authenc_tag : (n : ℕ) → authenc_takes_tag n ≡ true → n ≤ 32
+pub authenc_tag : (n : ℕ) → authenc_takes_tag n ≡ true → n ≤ 32
 authenc_tag n e = leb-true n 32 (second (nat_le 1 n) (nat_le n 32) e)
 
 no_tag : (n : ℕ) → (n == 0) ≡ true → n ≤ 32
