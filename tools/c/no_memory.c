@@ -6,6 +6,8 @@
 #include <stdlib.h>
 
 #define DRIVER "authenc(hmac(sha256-generic),cbc(aes-lanes))"
+/* one that doesn't go over pieces */
+#define OVER_XTS "authenc(hmac(sha256-generic),xts(aes-lanes))"
 
 void *__real_malloc(size_t n);
 void *__wrap_malloc(size_t n);
@@ -25,7 +27,8 @@ static int fail(const char *what, long at)
 }
 
 /* The key of authenc: an attribute of 8 bytes, the number of bytes of the cipher's key, the MAC's key, the cipher's. */
-static const uint8_t key[56] = { 8, 0, 1, 0, 0, 0, 0, 16, 5 }, other[56] = { 8, 0, 1, 0, 0, 0, 0, 16, 6 };
+static const uint8_t key[56] = { 8, 0, 1, 0, 0, 0, 0, 16, 5 }, other[56] = { 8, 0, 1, 0, 0, 0, 0, 16, 6 },
+		     halves[56] = { 8, 0, 1, 0, 0, 0, 0, 32, 7 };
 
 static const uint8_t iv[16] = { 2 };
 
@@ -91,9 +94,9 @@ static bool answers(struct perdoaze *tfm, const uint8_t *first)
 
 int main(void)
 {
-	struct perdoaze t = PERDOAZE_NONE, u = PERDOAZE_NONE;
+	struct perdoaze t = PERDOAZE_NONE, u = PERDOAZE_NONE, over_xts = PERDOAZE_NONE;
 	uint8_t first[64], out[64] = { 0 };
-	long inits, keys, dups, requests, few, many, macs;
+	long inits, keys, dups, requests, few, many, copied, macs;
 
 	if (perdoaze_init(&t, DRIVER))
 		return fail("init", -1);
@@ -114,9 +117,13 @@ int main(void)
 	dups = used;
 	few = in_pieces(&t, FEW);
 	many = in_pieces(&t, MANY);
+	if (perdoaze_init(&over_xts, OVER_XTS) || perdoaze_setkey(&over_xts, halves, sizeof halves))
+		return fail("xts", -1);
+	copied = in_pieces(&over_xts, MANY);
+	perdoaze_free(&over_xts);
 	macs = digests("hmac(sha256)") + digests("cmac(aes)");
-	if (few || many < 1 || macs)
-		return fail("pieces", many);
+	if (few || many || copied < 1 || macs)
+		return fail("pieces", copied);
 	for (long i = 0; i < keys; i++) {
 		left = i;
 		if (perdoaze_setkey(&t, other, sizeof other) != -ENOMEM || (left = -1, !answers(&t, first)))
@@ -134,7 +141,7 @@ int main(void)
 	}
 	perdoaze_free(&t);
 	perdoaze_free(&u);
-	printf("mallocs: init %ld, setkey %ld, dup %ld, encrypt %ld, encryptv_in_place %ld and %ld, digestv %ld\n", inits, keys, dups, requests,
-	       few, many, macs);
+	printf("mallocs: init %ld, setkey %ld, dup %ld, encrypt %ld, encryptv_in_place %ld, %ld and %ld, digestv %ld\n", inits, keys, dups, requests,
+	       few, many, copied, macs);
 	return requests ? fail("encrypt takes memory", requests) : 0;
 }

@@ -1,19 +1,22 @@
 -- A text in pieces that is changed where they lie.
 use Rattle.std.proofs.Common.{◌≡◌, ℕ, ◌+◌, ◌-◌, ◌≤◌, Bool, true, false, List, [], ◌∷◌, ◌++◌, length, map, take, drop, refl, sym, ap, ap₂, subst, ◌∙◌, arith, Option, Some, None, inl, inr, ⊎_elim, length-append, length-take, length-drop, take-append-drop}
-use Rattle.std.specs.Prelude.{◌==◌, ◌&&◌, ◌||◌, nat_le}
+use Rattle.std.specs.Prelude.{◌==◌, ◌&&◌, ◌||◌, nat_le, bytes_eq}
 use Rattle.std.proofs.lemmas.Bool.{eqb-true, leb-true}
 use Rattle.std.proofs.lemmas.List.{drop-drop, length-take-le}
 use Rattle.std.proofs.Math.Seq.{take-add}
 use Rattle.std_defs.specs.Aes.{seal}
 use Rattle.std_defs.specs.Gcm.{gcm_seal, gcm_takes_tag}
-use Rattle.std_defs.specs.Value.{or_bad_message}
+use Rattle.std_defs.specs.Authenc.{authenc_seal, authenc_open}
+use Rattle.std_defs.specs.Hmac.{hmac_under}
+use Rattle.authenc.proofs.Opening.{same_tag, other_tag}
+use Rattle.std_defs.specs.Value.{or_bad_message, or_invalid}
 use Rattle.std_defs.specs.Value.Value.{bytes, bad_message}
 use Rattle.aes_block.specs.Opened.{IsRefusal}
 use Rattle.kc_base.specs.declared.error_numbers.Errno.{Errno}
 use Rattle.templates.specs.declared.driver_plans.Plan.{Plan}
 use Rattle.transforms.specs.InPlace as kept
 use Rattle.transforms.specs.InPlace.{sealing, unsealing, opening}
-use Rattle.transforms.specs.Modes.{gcm_seals}
+use Rattle.transforms.specs.Modes.{gcm_seals, authenc_seals, authenc_opens}
 use Rattle.transforms.specs.Tagged.{tagged}
 use Rattle.perdoaze_calls.proofs.Answering.{IsKey, has_value}
 use Rattle.perdoaze_calls.proofs.KeySizes.{either, second}
@@ -91,7 +94,7 @@ same_total (p ∷ ps) (q ∷ qs) e =
     let behind : map size_of qs ≡ map size_of ps = cc in
     length-append q.bytes.now (text_over qs) ∙ ap₂ (λ (a b : ℕ). a + b) here (same_total ps qs behind) ∙ sym (length-append p.bytes.now (text_over ps))
 
-whole_same : (n : ℕ) (old new : List ℕ) → take n new ≡ take n old → drop n new ≡ drop n old → new ≡ old
+pub whole_same : (n : ℕ) (old new : List ℕ) → take n new ≡ take n old → drop n new ≡ drop n old → new ≡ old
 whole_same n old new front rest = sym (take-append-drop n new) ∙ ap₂ (λ (a b : List ℕ). a ++ b) front rest ∙ take-append-drop n old
 
 -- GCM refuses for a wrong tag alone
@@ -100,3 +103,19 @@ pub refused_is : (e : Errno) (x : Option (List ℕ)) (n : ℕ) (old new : List �
 refused_is e x n old new ((inl r), same) rest = (r.1, whole_same n old new same rest)
 refused_is e None n old new ((inr r), same) rest = absurd (cc)
 refused_is e (Some b) n old new ((inr r), same) rest = absurd (cc)
+
+-- authenc: the cipher's text, and the front of the MAC behind it
+pub authenc_made_over : (block iv aad text mid new : List ℕ) (seals : List ℕ → List ℕ → Option (List ℕ)) (n size : ℕ) → seals iv text ≡ Some (take n mid)
+    → take (n + size) new ≡ take n mid ++ take size (hmac_under block (aad ++ take n mid))
+    → authenc_seals block seals size iv aad text ≡ bytes (take (n + size) new)
+unfolding authenc_seal
+authenc_made_over block iv aad text mid new seals n size sealed made = rw (sealed, made) refl
+
+module _ (block iv aad text full tag : List ℕ) (unseals : List ℕ → List ℕ → Option (List ℕ)) (is : full ≡ hmac_under block (aad ++ text)) where
+  pub authenc_refused : bytes_eq (take (length tag) full) tag ≡ false → authenc_opens block unseals iv aad text tag ≡ bad_message
+  unfolding authenc_open
+  authenc_refused differ = other_tag full (hmac_under block (aad ++ text)) tag (length tag) (unseals iv text) is differ
+
+  pub authenc_opened : (new : List ℕ) → bytes_eq (take (length tag) full) tag ≡ true → unseals iv text ≡ Some new → authenc_opens block unseals iv aad text tag ≡ bytes new
+  unfolding authenc_open
+  authenc_opened new same made = same_tag full (hmac_under block (aad ++ text)) tag (length tag) (unseals iv text) is same ∙ ap or_invalid made

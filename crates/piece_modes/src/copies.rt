@@ -52,7 +52,8 @@ pub fn gather(pieces: &[PieceMut<'_>], first: usize, at: usize, into: &mut [u8])
 pub fn scatter(pieces: &mut [PieceMut<'_>], first: usize, at: usize, from: &[u8])
     requires begin { first ≤ length pieces.old }
     requires within { at + length from.now ≤ length (concat (drop first (parts_of pieces.old))) }
-    ensures text { concat (parts_of pieces.new) ≡ written (length (concat (take first (parts_of pieces.old))) + at) from.now (concat (parts_of pieces.old)) }
+    ensures text { concat (parts_of pieces.new)
+        ≡ written (length (concat (take first (parts_of pieces.old))) + at) from.now (concat (parts_of pieces.old)) }
     ensures sizes { map length (parts_of pieces.new) ≡ map length (parts_of pieces.old) }
     ensures len { length (concat (parts_of pieces.new)) ≡ length (concat (parts_of pieces.old)) }
 {

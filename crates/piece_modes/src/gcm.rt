@@ -60,7 +60,8 @@ pub fn seal_gcm<C: BlockCipher + Drop, H: GhashKey + Drop>(
     requires within { n ≤ length (text_over pieces.old) }
     requires associated_short { length associated.now < 2 ^ 32 }
     requires text_short { n < 2 ^ 32 }
-    ensures sealed { (take n (text_over pieces.new), result) ≡ gcm_seal (C.sealed gcm.now) iv.now associated.now (take n (text_over pieces.old)) }
+    ensures sealed { (take n (text_over pieces.new), result)
+        ≡ gcm_seal (C.sealed gcm.now) iv.now associated.now (take n (text_over pieces.old)) }
     ensures rest { drop n (text_over pieces.new) ≡ drop n (text_over pieces.old) }
     ensures sizes { map size_of pieces.new ≡ map size_of pieces.old }
 {

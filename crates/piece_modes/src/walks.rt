@@ -47,7 +47,8 @@ fn walk_piece<W: Walker>(
     requires within { i < length pieces.old }
     requires inside { skip < length (slice_index_or (parts_of pieces.old) i []) }
     ensures stepped { Stepped W.makes walker.old (parts_of pieces.old) (parts_of pieces.new) walker.new (length (concat (take i (parts_of pieces.old))) + skip) (length (slice_index_or (parts_of pieces.old) i []) + result - skip) }
-    ensures whole { length (slice_index_or (parts_of pieces.old) i []) + result < length (concat (drop i (parts_of pieces.old))) → (length (slice_index_or (parts_of pieces.old) i []) + result - skip) % 16 ≡ 0 }
+    ensures whole { length (slice_index_or (parts_of pieces.old) i []) + result < length (concat (drop i (parts_of pieces.old)))
+        → (length (slice_index_or (parts_of pieces.old) i []) + result - skip) % 16 ≡ 0 }
 {
     let len = len_of(pieces, i);
     let whole = (len - skip) / 16 * 16;
