@@ -43,7 +43,8 @@ fn answer_each(transform: &Transform, asked: &mut [Encryption<'_>], buffers: &mu
 
 /// Refuses each request.
 pub fn refuse_each(asked: &mut [Encryption<'_>])
-    ensures refused { (i : ℕ) → i < length asked.old → (status_in asked.new i ≡ code_of Status.Invalid) × (written_in asked.new i ≡ 0) }
+    ensures refused { (i : ℕ) → i < length asked.old
+        → (status_in asked.new i ≡ code_of Status.Invalid) × (written_in asked.new i ≡ 0) }
     ensures kept { map question_of asked.new ≡ map question_of asked.old }
 {
     for i in 0..asked.len() {

@@ -89,7 +89,8 @@ fn open_by_gcm<H: GhashKey + Drop>(
     requires tag_taken { IsTrue (gcm_takes_tag (length tag.now)) }
     requires aad_short { length aad.now < 2 ^ 32 }
     requires text_short { n < 2 ^ 32 }
-    ensures opened { OpensOver result (gcm_opens (key_of gcm.now) iv.now aad.now (take n (text_over pieces.old)) tag.now) n (text_over pieces.old) (text_over pieces.new) }
+    ensures opened { OpensOver result (gcm_opens (key_of gcm.now) iv.now aad.now (take n (text_over pieces.old)) tag.now) n
+        (text_over pieces.old) (text_over pieces.new) }
     ensures rest { drop n (text_over pieces.new) ≡ drop n (text_over pieces.old) }
     ensures sizes { map size_of pieces.new ≡ map size_of pieces.old }
 {
@@ -115,7 +116,8 @@ fn open_gcm_over<H: GhashKey + Drop>(
     requires aad_short { length aad.now < 2 ^ 32 }
     requires text_short { n < 2 ^ 32 }
     ensures opened { MatchOption result (text_over pieces.new ≡ text_over pieces.old) (λ right. (length iv.now ≡ 12)
-        × OpensOver right (gcm_opens (key_of gcm.now) iv.now aad.now (take n (text_over pieces.old)) tag.now) n (text_over pieces.old) (text_over pieces.new)) }
+        × OpensOver right (gcm_opens (key_of gcm.now) iv.now aad.now (take n (text_over pieces.old)) tag.now) n (text_over pieces.old)
+        (text_over pieces.new)) }
     ensures rest { drop n (text_over pieces.new) ≡ drop n (text_over pieces.old) }
     ensures sizes { map size_of pieces.new ≡ map size_of pieces.old }
 {
@@ -210,7 +212,8 @@ fn seal_plain(
 ) -> bool
     requires { n ≤ length (text_over pieces.old) }
     ensures sealed { IsTrue result
-        → in_place.HasValueIn (inner.Skcipher cipher.now) 0 (sealing iv.now aad.now (take n (text_over pieces.old))) (bytes (take n (text_over pieces.new))) }
+        → in_place.HasValueIn (inner.Skcipher cipher.now) 0 (sealing iv.now aad.now (take n (text_over pieces.old)))
+        (bytes (take n (text_over pieces.new))) }
     ensures rest { drop n (text_over pieces.new) ≡ drop n (text_over pieces.old) }
     ensures undone { IsFalse result → text_over pieces.new ≡ text_over pieces.old }
     ensures sizes { map size_of pieces.new ≡ map size_of pieces.old }
@@ -231,7 +234,8 @@ fn open_plain(
 ) -> bool
     requires { n ≤ length (text_over pieces.old) }
     ensures opened { IsTrue result
-        → in_place.HasValueIn (inner.Skcipher cipher.now) 0 (unsealing iv.now aad.now (take n (text_over pieces.old))) (bytes (take n (text_over pieces.new))) }
+        → in_place.HasValueIn (inner.Skcipher cipher.now) 0 (unsealing iv.now aad.now (take n (text_over pieces.old)))
+        (bytes (take n (text_over pieces.new))) }
     ensures rest { drop n (text_over pieces.new) ≡ drop n (text_over pieces.old) }
     ensures undone { IsFalse result → text_over pieces.new ≡ text_over pieces.old }
     ensures sizes { map size_of pieces.new ≡ map size_of pieces.old }
@@ -299,7 +303,8 @@ fn open_authenc(
     requires tag_taken { IsTrue (authenc_takes_tag (length tag.now)) }
     ensures opened { MatchOption result (text_over pieces.new ≡ text_over pieces.old) (λ right. (length iv.now
         ≡ ciphers.iv_size_of mode.now.1)
-        × OpensOver right (authenc_opens mode.now.0 (ciphers.unseals_of mode.now.1) iv.now aad.now (take n (text_over pieces.old)) tag.now) n (text_over pieces.old) (text_over pieces.new)) }
+        × OpensOver right (authenc_opens mode.now.0 (ciphers.unseals_of mode.now.1) iv.now aad.now (take n (text_over pieces.old))
+        tag.now) n (text_over pieces.old) (text_over pieces.new)) }
     ensures rest { drop n (text_over pieces.new) ≡ drop n (text_over pieces.old) }
     ensures sizes { map size_of pieces.new ≡ map size_of pieces.old }
 {
@@ -329,7 +334,8 @@ fn seal_untagged(
     requires within { n + tag_size ≤ length (text_over pieces.old) }
     requires none { (tag_size == 0) ≡ true }
     ensures sealed { IsTrue result
-        → in_place.HasValueIn (inner.Skcipher cipher.now) tag_size (sealing iv.now aad.now (take n (text_over pieces.old))) (bytes (take (n + tag_size) (text_over pieces.new))) }
+        → in_place.HasValueIn (inner.Skcipher cipher.now) tag_size (sealing iv.now aad.now (take n (text_over pieces.old)))
+        (bytes (take (n + tag_size) (text_over pieces.new))) }
     ensures rest { drop (n + tag_size) (text_over pieces.new) ≡ drop (n + tag_size) (text_over pieces.old) }
     ensures undone { IsFalse result → text_over pieces.new ≡ text_over pieces.old }
     ensures sizes { map size_of pieces.new ≡ map size_of pieces.old }
@@ -349,7 +355,8 @@ fn open_untagged(
     requires within { n ≤ length (text_over pieces.old) }
     requires none { (length tag.now == 0) ≡ true }
     ensures opened { MatchOption result (text_over pieces.new ≡ text_over pieces.old)
-        (λ right. OpensIn right (inner.Skcipher cipher.now) (length tag.now) (opening iv.now aad.now (take n (text_over pieces.old)) tag.now) n (text_over pieces.old) (text_over pieces.new)) }
+        (λ right. OpensIn right (inner.Skcipher cipher.now) (length tag.now)
+        (opening iv.now aad.now (take n (text_over pieces.old)) tag.now) n (text_over pieces.old) (text_over pieces.new)) }
     ensures rest { drop n (text_over pieces.new) ≡ drop n (text_over pieces.old) }
     ensures sizes { map size_of pieces.new ≡ map size_of pieces.old }
 {
@@ -374,7 +381,8 @@ pub(crate) fn seal_over(
     requires aad_short { length aad.now < 2 ^ 32 }
     requires text_short { n < 2 ^ 32 }
     ensures sealed { IsTrue result
-        → in_place.HasValueIn kept.now tag_size (sealing iv.now aad.now (take n (text_over pieces.old))) (bytes (take (n + tag_size) (text_over pieces.new))) }
+        → in_place.HasValueIn kept.now tag_size (sealing iv.now aad.now (take n (text_over pieces.old)))
+        (bytes (take (n + tag_size) (text_over pieces.new))) }
     ensures rest { drop (n + tag_size) (text_over pieces.new) ≡ drop (n + tag_size) (text_over pieces.old) }
     ensures undone { IsFalse result → text_over pieces.new ≡ text_over pieces.old }
     ensures sizes { map size_of pieces.new ≡ map size_of pieces.old }
@@ -408,7 +416,8 @@ pub(crate) fn open_over(
     requires aad_short { length aad.now < 2 ^ 32 }
     requires text_short { n < 2 ^ 32 }
     ensures opened { MatchOption result (text_over pieces.new ≡ text_over pieces.old)
-        (λ right. OpensIn right kept.now (length tag.now) (opening iv.now aad.now (take n (text_over pieces.old)) tag.now) n (text_over pieces.old) (text_over pieces.new)) }
+        (λ right. OpensIn right kept.now (length tag.now) (opening iv.now aad.now (take n (text_over pieces.old)) tag.now) n
+        (text_over pieces.old) (text_over pieces.new)) }
     ensures rest { drop n (text_over pieces.new) ≡ drop n (text_over pieces.old) }
     ensures sizes { map size_of pieces.new ≡ map size_of pieces.old }
 {
@@ -440,7 +449,8 @@ pub(crate) fn seal_keyed_over(
     requires aad_short { length aad.now < 2 ^ 32 }
     requires text_short { n < 2 ^ 32 }
     ensures sealed { IsTrue result
-        → in_place.HasValue keyed.now tag_size (sealing iv.now aad.now (take n (text_over pieces.old))) (bytes (take (n + tag_size) (text_over pieces.new))) }
+        → in_place.HasValue keyed.now tag_size (sealing iv.now aad.now (take n (text_over pieces.old)))
+        (bytes (take (n + tag_size) (text_over pieces.new))) }
     ensures rest { drop (n + tag_size) (text_over pieces.new) ≡ drop (n + tag_size) (text_over pieces.old) }
     ensures undone { IsFalse result → text_over pieces.new ≡ text_over pieces.old }
     ensures sizes { map size_of pieces.new ≡ map size_of pieces.old }
@@ -462,7 +472,8 @@ pub(crate) fn open_keyed_over(
     requires aad_short { length aad.now < 2 ^ 32 }
     requires text_short { n < 2 ^ 32 }
     ensures opened { MatchOption result (text_over pieces.new ≡ text_over pieces.old)
-        (λ right. Opens right keyed.now (length tag.now) (opening iv.now aad.now (take n (text_over pieces.old)) tag.now) n (text_over pieces.old) (text_over pieces.new)) }
+        (λ right. Opens right keyed.now (length tag.now) (opening iv.now aad.now (take n (text_over pieces.old)) tag.now) n
+        (text_over pieces.old) (text_over pieces.new)) }
     ensures rest { drop n (text_over pieces.new) ≡ drop n (text_over pieces.old) }
     ensures sizes { map size_of pieces.new ≡ map size_of pieces.old }
 {

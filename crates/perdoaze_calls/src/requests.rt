@@ -148,7 +148,8 @@ impl Transform {
     pub(crate) fn ready(&self, aad: usize, text: usize) -> Result<&Keyed, Status>
         ensures { MatchResult result
             (λ k. (k.now.0 ≡ self.now.plan) × (key_within self.now.keyed ≡ Some k.now.1) × (aad < 2 ^ 32) × (text < 2 ^ 32))
-            (λ e. ((e ≡ Status.NoKey) × (key_within self.now.keyed ≡ None)) ⊎ ((e ≡ Status.Invalid) × ((2 ^ 32 ≤ aad) ⊎ (2 ^ 32 ≤ text)))) }
+            (λ e. ((e ≡ Status.NoKey) × (key_within self.now.keyed ≡ None))
+            ⊎ ((e ≡ Status.Invalid) × ((2 ^ 32 ≤ aad) ⊎ (2 ^ 32 ≤ text)))) }
     {
         let Some(keyed) = &self.keyed else {
             return Err(Status::NoKey);

@@ -176,7 +176,8 @@ impl Transform {
         n: usize,
         written: &mut usize,
     ) -> bool
-        ensures came { IsTrue result → EncryptsWithin self.now iv.now aad.now n Status.Done (text_over pieces.old) (text_over pieces.new) written.new }
+        ensures came { IsTrue result → EncryptsWithin self.now iv.now aad.now n Status.Done (text_over pieces.old)
+            (text_over pieces.new) written.new }
         ensures undone { IsFalse result → text_over pieces.new ≡ text_over pieces.old }
         ensures sizes { map size_of pieces.new ≡ map size_of pieces.old }
     {

@@ -75,7 +75,8 @@ pub fn scatter(pieces: &mut [PieceMut<'_>], first: usize, at: usize, from: &[u8]
 /// Writes `from` over the bytes of the text from `at` on. Each piece keeps its length.
 pub fn write_at(pieces: &mut [PieceMut<'_>], at: usize, from: &[u8])
     requires { at + length from.now ≤ length (text_over pieces.old) }
-    ensures text { text_over pieces.new ≡ take at (text_over pieces.old) ++ from.now ++ drop (at + length from.now) (text_over pieces.old) }
+    ensures text { text_over pieces.new
+        ≡ take at (text_over pieces.old) ++ from.now ++ drop (at + length from.now) (text_over pieces.old) }
     ensures sizes { map size_of pieces.new ≡ map size_of pieces.old }
 {
     scatter(pieces, 0, at, from);

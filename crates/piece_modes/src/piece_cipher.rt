@@ -16,7 +16,8 @@ pub trait PieceCipher: Skcipher {
     fn seal_pieces(&self, iv: &[u8], pieces: &mut [PieceMut<'_>], n: usize) -> Result<(), Errno>
         requires iv_fits { length iv.now ≡ Self.iv_size self.now }
         requires within { n ≤ length (text_over pieces.old) }
-        ensures text { Becomes result (Self.seals self.now iv.now (take n (text_over pieces.old))) (take n (text_over pieces.old)) (take n (text_over pieces.new)) }
+        ensures text { Becomes result (Self.seals self.now iv.now (take n (text_over pieces.old))) (take n (text_over pieces.old))
+            (take n (text_over pieces.new)) }
         ensures rest { drop n (text_over pieces.new) ≡ drop n (text_over pieces.old) }
         ensures sizes { map size_of pieces.new ≡ map size_of pieces.old };
 
@@ -26,7 +27,8 @@ pub trait PieceCipher: Skcipher {
     fn unseal_pieces(&self, iv: &[u8], pieces: &mut [PieceMut<'_>], n: usize) -> Result<(), Errno>
         requires iv_fits { length iv.now ≡ Self.iv_size self.now }
         requires within { n ≤ length (text_over pieces.old) }
-        ensures text { Becomes result (Self.unseals self.now iv.now (take n (text_over pieces.old))) (take n (text_over pieces.old)) (take n (text_over pieces.new)) }
+        ensures text { Becomes result (Self.unseals self.now iv.now (take n (text_over pieces.old))) (take n (text_over pieces.old))
+            (take n (text_over pieces.new)) }
         ensures rest { drop n (text_over pieces.new) ≡ drop n (text_over pieces.old) }
         ensures sizes { map size_of pieces.new ≡ map size_of pieces.old };
 }

@@ -27,7 +27,8 @@ fn step_across<W: Walker>(pieces: &mut [PieceMut<'_>], i: usize, at: usize, walk
     requires within { i < length pieces.old }
     requires inside { at ≤ length (concat (drop i (parts_of pieces.old))) }
     ensures count { result ≡ min 128 (length (concat (drop i (parts_of pieces.old))) - at) }
-    ensures stepped { Stepped W.makes walker.old (parts_of pieces.old) (parts_of pieces.new) walker.new (length (concat (take i (parts_of pieces.old))) + at) result }
+    ensures stepped { Stepped W.makes walker.old (parts_of pieces.old) (parts_of pieces.new) walker.new
+        (length (concat (take i (parts_of pieces.old))) + at) result }
 {
     let mut room = [0u8; 128];
     let count = gather(pieces, i, at, &mut room);
@@ -46,7 +47,8 @@ fn walk_piece<W: Walker>(
 ) -> usize
     requires within { i < length pieces.old }
     requires inside { skip < length (slice_index_or (parts_of pieces.old) i []) }
-    ensures stepped { Stepped W.makes walker.old (parts_of pieces.old) (parts_of pieces.new) walker.new (length (concat (take i (parts_of pieces.old))) + skip) (length (slice_index_or (parts_of pieces.old) i []) + result - skip) }
+    ensures stepped { Stepped W.makes walker.old (parts_of pieces.old) (parts_of pieces.new) walker.new
+        (length (concat (take i (parts_of pieces.old))) + skip) (length (slice_index_or (parts_of pieces.old) i []) + result - skip) }
     ensures whole { length (slice_index_or (parts_of pieces.old) i []) + result < length (concat (drop i (parts_of pieces.old)))
         → (length (slice_index_or (parts_of pieces.old) i []) + result - skip) % 16 ≡ 0 }
 {
