@@ -11,5 +11,5 @@ mod rfc4106;
 mod segments;
 
 pub use gcm::{Gcm, takes_gcm_tag};
-pub use rfc4106::{Rfc4106, takes_rfc4106_tag};
+pub use rfc4106::{Rfc4106, authenticated_bytes, takes_rfc4106_associated, takes_rfc4106_tag};
 pub use segments::{KeyStream, TextHash};

@@ -19,6 +19,21 @@ pub fn takes_rfc4106_tag(len: usize) -> bool
     matches!(len, 8 | 12 | 16)
 }
 
+/// Whether these associated bytes are taken: 16 or 20 of them, the standard's 8 or 12 and behind them the IV's eight.
+pub fn takes_rfc4106_associated(associated: &[u8]) -> bool
+    ensures { result ≡ rfc4106_takes associated.now }
+{
+    associated.len() == 16 || associated.len() == 20
+}
+
+/// The associated bytes that are authenticated, 8 or 12: those of a request without the IV's eight (5).
+pub fn authenticated_bytes(associated: &[u8]) -> &[u8]
+    requires { IsTrue (rfc4106_takes associated.now) }
+    ensures { result.now ≡ rfc4106_associated associated.now }
+{
+    &associated[..associated.len() - 8]
+}
+
 /// GCM and the salt of its IVs. Contracts see the cipher and the salt.
 ///
 /// An IV serves once under a key and a salt (RFC 4106, 3.1): a packet's number is such an IV, and a key ends where the
@@ -53,6 +68,20 @@ impl<C: BlockCipher + Drop, H: GhashKey + Drop> Rfc4106<C, H> {
         self.gcm.cipher()
     }
 
+    /// The GCM that was given. It takes `nonce` and `authenticated_bytes` of a packet.
+    pub fn gcm(&self) -> &Gcm<C, H>
+        ensures { result.now ≡ self.now.0 }
+    {
+        &self.gcm
+    }
+
+    /// The IV of GCM, 12 bytes, for the IV of a packet (4).
+    pub fn nonce(&self, iv: &[u8; 8]) -> [u8; 12]
+        ensures { result ≡ rfc4106_iv self.now.1 iv.now }
+    {
+        salted(&self.salt, iv)
+    }
+
     /// The length of an IV in bytes: 8.
     pub fn iv_len(&self) -> usize
         ensures { result ≡ 8 }
@@ -81,11 +110,12 @@ impl<C: BlockCipher + Drop, H: GhashKey + Drop> Rfc4106<C, H> {
         ensures opens { OnOk result ((n : ℕ) → n ≤ 16
             → rfc4106_open (C.sealed self.now.0) self.now.1 iv.now associated.now text.new (take n tag.new) ≡ bytes text.old) }
     {
-        if !is_taken(associated) {
+        if !takes_rfc4106_associated(associated) {
             return Err(Errno::EINVAL);
         }
         let nonce = salted(&self.salt, iv);
-        self.gcm.seal(&nonce, authenticated(associated), text, tag);
+        self.gcm
+            .seal(&nonce, authenticated_bytes(associated), text, tag);
         Ok(())
     }
 
@@ -103,12 +133,12 @@ impl<C: BlockCipher + Drop, H: GhashKey + Drop> Rfc4106<C, H> {
         requires tag_taken { IsTrue (rfc4106_takes_tag (length tag.now)) }
         ensures { Opens result (rfc4106_open (C.sealed self.now.0) self.now.1 iv.now associated.now text.old tag.now) text.old text.new }
     {
-        if !is_taken(associated) {
+        if !takes_rfc4106_associated(associated) {
             return Err(Errno::EINVAL);
         }
         let nonce = salted(&self.salt, iv);
         self.gcm
-            .unseal(&nonce, authenticated(associated), text, tag)
+            .unseal(&nonce, authenticated_bytes(associated), text, tag)
     }
 
     /// Makes the ciphertext of `text`, of fewer than 2^32 bytes, in its place, and its full tag, as `seal` does.
@@ -127,12 +157,12 @@ impl<C: BlockCipher + Drop, H: GhashKey + Drop> Rfc4106<C, H> {
             (λ e. (e ≡ Errno.EINVAL) × (given ≡ None) × (text.new.text ≡ text.old.text) × (tag.new ≡ tag.old)) }
         ensures sizes { text.new.sizes ≡ text.old.sizes }
     {
-        if !is_taken(associated) {
+        if !takes_rfc4106_associated(associated) {
             return Err(Errno::EINVAL);
         }
         let nonce = salted(&self.salt, iv);
         self.gcm
-            .seal_segs(&nonce, authenticated(associated), text, tag);
+            .seal_segs(&nonce, authenticated_bytes(associated), text, tag);
         Ok(())
     }
 
@@ -153,12 +183,12 @@ impl<C: BlockCipher + Drop, H: GhashKey + Drop> Rfc4106<C, H> {
             text.old.text text.new.text }
         ensures sizes { text.new.sizes ≡ text.old.sizes }
     {
-        if !is_taken(associated) {
+        if !takes_rfc4106_associated(associated) {
             return Err(Errno::EINVAL);
         }
         let nonce = salted(&self.salt, iv);
         self.gcm
-            .unseal_segs(&nonce, authenticated(associated), text, tag)
+            .unseal_segs(&nonce, authenticated_bytes(associated), text, tag)
     }
 }
 
@@ -170,19 +200,4 @@ fn salted(salt: &[u8; 4], iv: &[u8; 8]) -> [u8; 12]
     whole[..4].copy_from_slice(salt);
     whole[4..].copy_from_slice(iv);
     whole
-}
-
-/// Whether there are as many associated bytes as are taken.
-fn is_taken(associated: &[u8]) -> bool
-    ensures { result ≡ rfc4106_takes associated.now }
-{
-    associated.len() == 16 || associated.len() == 20
-}
-
-/// The associated bytes without those of the IV (5).
-fn authenticated(associated: &[u8]) -> &[u8]
-    requires { IsTrue (rfc4106_takes associated.now) }
-    ensures { result.now ≡ rfc4106_associated associated.now }
-{
-    &associated[..associated.len() - 8]
 }

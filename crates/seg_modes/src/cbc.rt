@@ -27,22 +27,22 @@ fn last_block(before: [u8; 16], text: &[u8]) -> [u8; 16]
     block
 }
 
-/// Sealing on its way over a text of whole blocks: contracts see the cipher and the ciphertext block before what comes
-/// next.
+/// The chain of CBC on its way over a text of whole blocks that is sealed: contracts see the cipher and the ciphertext
+/// block before what comes next.
 #[derive(Drop)]
-struct Sealing<'a, C: BlockCipher + Drop> {
+pub struct SealingChain<'a, C: BlockCipher + Drop> {
     mode: &'a Cbc<C>,
     before: [u8; 16],
 }
 
-/// Unsealing on its way over a text of whole blocks.
+/// The same, of a text that is unsealed.
 #[derive(Drop)]
-struct Unsealing<'a, C: BlockCipher + Drop> {
+pub struct UnsealingChain<'a, C: BlockCipher + Drop> {
     mode: &'a Cbc<C>,
     before: [u8; 16],
 }
 
-impl<'a, C: BlockCipher + Drop> Model for Sealing<'a, C> {
+impl<'a, C: BlockCipher + Drop> Model for SealingChain<'a, C> {
     ghost use Rattle.std.specs.Prelude.{ℕ, List};
 
     ghost Value = { C × List ℕ };
@@ -50,7 +50,7 @@ impl<'a, C: BlockCipher + Drop> Model for Sealing<'a, C> {
     ghost view = { λ at. (at.mode.now, at.before) };
 }
 
-impl<'a, C: BlockCipher + Drop> Model for Unsealing<'a, C> {
+impl<'a, C: BlockCipher + Drop> Model for UnsealingChain<'a, C> {
     ghost use Rattle.std.specs.Prelude.{ℕ, List};
 
     ghost Value = { C × List ℕ };
@@ -58,7 +58,25 @@ impl<'a, C: BlockCipher + Drop> Model for Unsealing<'a, C> {
     ghost view = { λ at. (at.mode.now, at.before) };
 }
 
-impl<'a, C: BlockCipher + Drop> Walker for Sealing<'a, C> {
+impl<'a, C: BlockCipher + Drop> SealingChain<'a, C> {
+    /// The chain of a whole text.
+    pub fn new(mode: &'a Cbc<C>, iv: [u8; 16]) -> SealingChain<'a, C>
+        ensures { result ≡ (mode.now, iv) }
+    {
+        SealingChain { mode, before: iv }
+    }
+}
+
+impl<'a, C: BlockCipher + Drop> UnsealingChain<'a, C> {
+    /// The chain of a whole text.
+    pub fn new(mode: &'a Cbc<C>, iv: [u8; 16]) -> UnsealingChain<'a, C>
+        ensures { result ≡ (mode.now, iv) }
+    {
+        UnsealingChain { mode, before: iv }
+    }
+}
+
+impl<'a, C: BlockCipher + Drop> Walker for SealingChain<'a, C> {
     ghost makes = { λ u text made v. Seals C.sealed u text made v };
 
     ghost stays = { λ walker. seals_none C.sealed walker };
@@ -74,7 +92,7 @@ impl<'a, C: BlockCipher + Drop> Walker for Sealing<'a, C> {
     }
 }
 
-impl<'a, C: BlockCipher + Drop> Walker for Unsealing<'a, C> {
+impl<'a, C: BlockCipher + Drop> Walker for UnsealingChain<'a, C> {
     ghost makes = { λ u text made v. Unseals C.unsealed u text made v };
 
     ghost stays = { λ walker. unseals_none C.unsealed walker };
@@ -94,10 +112,10 @@ impl<C: BlockCipher + Drop> SegCipher for Cbc<C> {
         if b.len() % 16 != 0 {
             return Err(Errno::EINVAL);
         }
-        let mut before = [0u8; 16];
-        before.copy_from_slice(iv);
-        let mut sealing = Sealing { mode: self, before };
-        b.walk(&mut sealing);
+        let mut first = [0u8; 16];
+        first.copy_from_slice(iv);
+        let mut chain = SealingChain::new(self, first);
+        b.walk(&mut chain);
         Ok(())
     }
 
@@ -105,10 +123,10 @@ impl<C: BlockCipher + Drop> SegCipher for Cbc<C> {
         if b.len() % 16 != 0 {
             return Err(Errno::EINVAL);
         }
-        let mut before = [0u8; 16];
-        before.copy_from_slice(iv);
-        let mut unsealing = Unsealing { mode: self, before };
-        b.walk(&mut unsealing);
+        let mut first = [0u8; 16];
+        first.copy_from_slice(iv);
+        let mut chain = UnsealingChain::new(self, first);
+        b.walk(&mut chain);
         Ok(())
     }
 }

@@ -12,14 +12,14 @@ use sg_walk::{Segs, Walker};
 use std::marker::Model;
 use std_defs::{block_bytes, block_number};
 
-/// CTR on its way over a text: contracts see the cipher and the counter block of what comes next.
+/// The key stream of CTR on its way over a text: contracts see the cipher and the counter block of what comes next.
 #[derive(Drop)]
-struct Counting<'a, C: BlockCipher + Drop> {
+pub struct CtrStream<'a, C: BlockCipher + Drop> {
     mode: &'a Ctr<C>,
     counter: [u8; 16],
 }
 
-impl<'a, C: BlockCipher + Drop> Model for Counting<'a, C> {
+impl<'a, C: BlockCipher + Drop> Model for CtrStream<'a, C> {
     ghost use Rattle.std.specs.Prelude.{ℕ, List};
 
     ghost Value = { C × List ℕ };
@@ -27,7 +27,16 @@ impl<'a, C: BlockCipher + Drop> Model for Counting<'a, C> {
     ghost view = { λ at. (at.mode.now, at.counter) };
 }
 
-impl<'a, C: BlockCipher + Drop> Walker for Counting<'a, C> {
+impl<'a, C: BlockCipher + Drop> CtrStream<'a, C> {
+    /// The key stream from a counter block on. Under a key no counter block may serve twice.
+    pub fn new(mode: &'a Ctr<C>, counter: [u8; 16]) -> CtrStream<'a, C>
+        ensures { result ≡ (mode.now, counter) }
+    {
+        CtrStream { mode, counter }
+    }
+}
+
+impl<'a, C: BlockCipher + Drop> Walker for CtrStream<'a, C> {
     ghost makes = { λ u text made v. Counts C.sealed u text made v };
 
     ghost stays = { λ walker. counts_none C.sealed walker };
@@ -48,8 +57,8 @@ fn count_over<C: BlockCipher + Drop>(mode: &Ctr<C>, counter: [u8; 16], b: &mut S
     ensures sizes { b.new.sizes ≡ b.old.sizes }
     ensures len { length b.new.text ≡ length b.old.text }
 {
-    let mut counting = Counting { mode, counter };
-    b.walk(&mut counting);
+    let mut stream = CtrStream::new(mode, counter);
+    b.walk(&mut stream);
 }
 
 impl<C: BlockCipher + Drop> SegCipher for Ctr<C> {

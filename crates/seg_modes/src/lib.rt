@@ -5,4 +5,6 @@ mod cbc;
 mod ctr;
 mod seg_cipher;
 
+pub use cbc::{SealingChain, UnsealingChain};
+pub use ctr::CtrStream;
 pub use seg_cipher::SegCipher;

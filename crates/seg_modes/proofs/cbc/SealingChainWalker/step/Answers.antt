@@ -1,5 +1,5 @@
 use Rattle.seg_modes.proofs.Steps.{sealed_step}
-use Rattle.piece_modes.proofs.cbc.SealingWalker.step.Goals as goal
+use Rattle.seg_modes.proofs.cbc.SealingChainWalker.step.Goals as goal
 
 pub returns : goal.returns
 returns g c =

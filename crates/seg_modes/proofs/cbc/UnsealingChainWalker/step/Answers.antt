@@ -1,5 +1,5 @@
 use Rattle.seg_modes.proofs.Steps.{unsealed_step}
-use Rattle.seg_modes.proofs.cbc.UnsealingWalker.step.Goals as goal
+use Rattle.seg_modes.proofs.cbc.UnsealingChainWalker.step.Goals as goal
 
 pub returns : goal.returns
 returns g c =

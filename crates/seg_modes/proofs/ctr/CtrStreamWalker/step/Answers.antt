@@ -1,7 +1,7 @@
 use Rattle.std.proofs.Common.{◌∙◌, ◌+◌, ◌/◌, ◌%◌, ◌^◌, ℕ, refl, ap₂, length}
 use Rattle.std_defs.specs.Modes.{ctr}
 use Rattle.seg_modes.proofs.Steps.{taken_any, counter_made}
-use Rattle.seg_modes.proofs.ctr.CountingWalker.step.Goals as goal
+use Rattle.seg_modes.proofs.ctr.CtrStreamWalker.step.Goals as goal
 
 pub returns : goal.returns
 returns g c =
