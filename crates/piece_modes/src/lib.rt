@@ -14,5 +14,5 @@ mod walks;
 pub use copies::{read_at, write_at};
 pub use gcm::{open_gcm, seal_gcm};
 pub use mac::mac_of_front;
-pub use piece::PieceMut;
+pub use piece::{PieceMut, ReadPiece};
 pub use piece_cipher::PieceCipher;
