@@ -5,25 +5,9 @@ use Rattle.std.proofs.Math.Seq.{take-append_seam, drop-append_seam, take-add}
 use Rattle.sg_walk.proofs.Joined.{piece_first}
 use Rattle.perdoaze_calls.specs.Pieces.{text_in}
 use Rattle.piece_modes.specs.Pieces.{text_over, size_of}
+use Rattle.piece_modes.proofs.Hashed.{text_from}
 use Rattle.perdoaze_calls.specs.declared.pieces.Piece.{Piece}
 use Rattle.piece_modes.specs.declared.piece.PieceMut.{PieceMut}
-
--- the piece at i, and those behind it
-pub text_from : (ps : List Piece) (i : ℕ) (d : Piece) → i < length ps → text_in (drop i ps) ≡ (get_or ps i d).bytes.now ++ text_in (drop (i + 1) ps)
-text_from ps i d l =
-    let next : suc i ≡ i + 1 = omega arith in
-    ap text_in (drop-cons ps i d l) ∙ ap (λ j. (get_or ps i d).bytes.now ++ text_in (drop j ps)) next
-
-pub text_in-append : (ps qs : List Piece) → text_in (ps ++ qs) ≡ text_in ps ++ text_in qs
-text_in-append [] qs = refl
-text_in-append (p ∷ ps) qs = ap (λ x. p.bytes.now ++ x) (text_in-append ps qs) ∙ sym (append_assoc p.bytes.now (text_in ps) (text_in qs))
-
--- the pieces up to the one at i
-pub text_in_more : (ps : List Piece) (i : ℕ) (d : Piece) → i < length ps → text_in (take (i + 1) ps) ≡ text_in (take i ps) ++ (get_or ps i d).bytes.now
-text_in_more ps i d l =
-    ap text_in (take_more ps i d l)
-    ∙ text_in-append (take i ps) (get_or ps i d ∷ [])
-    ∙ ap (λ x. text_in (take i ps) ++ x) (append-nil (get_or ps i d).bytes.now)
 
 -- once `done` of n bytes were copied, and `skip` bytes of what is left are to be passed over
 pub record IsGathered (ps : List Piece) (at n i skip done : ℕ) (old into : List ℕ) : Type 0 where
@@ -85,15 +69,9 @@ gathered_all ps at n i skip done old into past within fits h =
 
 -- ---- pieces that are written
 
-pub text_over-append : (ps qs : List PieceMut) → text_over (ps ++ qs) ≡ text_over ps ++ text_over qs
+text_over-append : (ps qs : List PieceMut) → text_over (ps ++ qs) ≡ text_over ps ++ text_over qs
 text_over-append [] qs = refl
 text_over-append (p ∷ ps) qs = ap (λ x. p.bytes.now ++ x) (text_over-append ps qs) ∙ sym (append_assoc p.bytes.now (text_over ps) (text_over qs))
-
-pub text_over_from : (ps : List PieceMut) (i : ℕ) (d : PieceMut) → i < length ps
-    → text_over (drop i ps) ≡ (get_or ps i d).bytes.now ++ text_over (drop (i + 1) ps)
-text_over_from ps i d l =
-    let next : suc i ≡ i + 1 = omega arith in
-    ap text_over (drop-cons ps i d l) ∙ ap (λ j. (get_or ps i d).bytes.now ++ text_over (drop j ps)) next
 
 -- once `done` bytes of all were copied, those of the first i pieces
 pub record IsCopied (ps : List PieceMut) (i done : ℕ) (old into : List ℕ) : Type 0 where
@@ -110,14 +88,14 @@ copied_more ps i done d old into new piece l fits part h made =
     let left = drop (length piece) (drop done into) in
     let later = text_over (drop (i + 1) ps) in
     let here : length (text_over (drop i ps)) ≡ length piece + length later =
-    ap length (text_over_from ps i d l ∙ ap (λ x. x ++ later) (sym part)) ∙ length-append piece later in
+    ap length (text_from (λ (p : PieceMut). p.bytes.now) ps i d l ∙ ap (λ x. x ++ later) (sym part)) ∙ length-append piece later in
     let within : done ≤ length into = omega (arith, h.size, h.long, fits) in
     let long : length front ≡ done + length piece = length-append (take done into) piece ∙ ap (λ n. n + length piece) (length-take-le done into within) in
     record {
       copied = ap (λ x. x ++ later) (ap (take (done + length piece)) made ∙ subst (λ m. take m (front ++ left) ≡ front) long (take-append_seam front left))
           ∙ append_assoc (take done into) piece later
           ∙ ap (λ x. take done into ++ (x ++ later)) part
-          ∙ ap (λ x. take done into ++ x) (sym (text_over_from ps i d l))
+          ∙ ap (λ x. take done into ++ x) (sym (text_from (λ (p : PieceMut). p.bytes.now) ps i d l))
           ∙ h.copied;
       size = omega (arith, h.size, here);
       long = ap length made ∙ omega (arith, length-append front left, long, length-drop (length piece) (drop done into), length-drop done into, here, h.size, h.long, fits);
@@ -151,7 +129,7 @@ scattered old ps from i done d new bytes l all h holds part =
     let split : piece ∷ drop (suc i) ps ≡ get_or old i d ∷ drop (suc i) old = sym (drop-cons ps i d l) ∙ (h.left ∙ drop-cons old i d within) in
     let heads : piece ≡ get_or old i d = cc in
     let tails : drop (suc i) ps ≡ drop (suc i) old = cc in
-    let here : text_over (drop i old) ≡ piece.bytes.now ++ later = text_over_from old i d within ∙ ap (λ p. p.bytes.now ++ later) (sym heads) in
+    let here : text_over (drop i old) ≡ piece.bytes.now ++ later = text_from (λ (p : PieceMut). p.bytes.now) old i d within ∙ ap (λ p. p.bytes.now ++ later) (sym heads) in
     let total : length (text_over (drop i old)) ≡ length piece.bytes.now + length later = ap length here ∙ length-append piece.bytes.now later in
     let size : length bytes ≡ length piece.bytes.now =
     ap length part ∙ length-take-le (length piece.bytes.now) (drop done from) (omega (arith, length-drop done from, total, h.size, all)) in

@@ -1,22 +1,24 @@
 -- A text in pieces that is changed where they lie.
 use Rattle.std.proofs.Common.{◌≡◌, ℕ, ◌+◌, ◌-◌, ◌≤◌, Bool, true, false, List, [], ◌∷◌, ◌++◌, length, map, take, drop, refl, sym, ap, ap₂, subst, ◌∙◌, arith, Option, Some, None, inl, inr, ⊎_elim, length-append, length-take, length-drop, take-append-drop}
-use Rattle.std.specs.Prelude.{◌==◌, ◌&&◌, ◌||◌, nat_le, bytes_eq}
+use Rattle.std.specs.Prelude.{◌==◌, ◌&&◌, ◌||◌, if◌then◌else◌, nat_le, bytes_eq}
+use Rattle.std.specs.Option.{option_map}
 use Rattle.std.proofs.lemmas.Bool.{eqb-true, leb-true}
 use Rattle.std.proofs.lemmas.List.{drop-drop, length-take-le}
 use Rattle.std.proofs.Math.Seq.{take-add}
 use Rattle.std_defs.specs.Aes.{seal}
-use Rattle.std_defs.specs.Gcm.{gcm_seal, gcm_takes_tag}
+use Rattle.std_defs.specs.Gcm.{gcm_seal, gcm_open, gcm_takes_tag}
+use Rattle.std_defs.specs.Rfc4106.{rfc4106_takes, rfc4106_iv, rfc4106_associated}
 use Rattle.std_defs.specs.Authenc.{authenc_seal, authenc_open}
 use Rattle.std_defs.specs.Hmac.{hmac_under}
 use Rattle.authenc.proofs.Opening.{same_tag, other_tag}
-use Rattle.std_defs.specs.Value.{or_bad_message, or_invalid}
-use Rattle.std_defs.specs.Value.Value.{bytes, bad_message}
+use Rattle.std_defs.specs.Value.{Value, or_bad_message, or_invalid}
+use Rattle.std_defs.specs.Value.Value.{bytes, bad_message, invalid}
 use Rattle.aes_block.specs.Opened.{IsRefusal}
 use Rattle.kc_base.specs.declared.error_numbers.Errno.{Errno}
 use Rattle.templates.specs.declared.driver_plans.Plan.{Plan}
 use Rattle.transforms.specs.InPlace as kept
 use Rattle.transforms.specs.InPlace.{sealing, unsealing, opening}
-use Rattle.transforms.specs.Modes.{gcm_seals, authenc_seals, authenc_opens}
+use Rattle.transforms.specs.Modes.{gcm_seals, gcm_opens, rfc4106_seals, rfc4106_opens, authenc_seals, authenc_opens}
 use Rattle.transforms.specs.Tagged.{tagged}
 use Rattle.perdoaze_calls.proofs.Answering.{IsKey, has_value}
 use Rattle.perdoaze_calls.proofs.KeySizes.{either, second}
@@ -103,6 +105,19 @@ pub refused_is : (e : Errno) (x : Option (List ℕ)) (n : ℕ) (old new : List �
 refused_is e x n old new ((inl r), same) rest = (r.1, whole_same n old new same rest)
 refused_is e None n old new ((inr r), same) rest = absurd (cc)
 refused_is e (Some b) n old new ((inr r), same) rest = absurd (cc)
+
+-- RFC 4106 is GCM under the salted IV, over what is authenticated of the associated bytes
+module _ (key salt iv aad text nonce part : List ℕ) (taken : rfc4106_takes aad ≡ true) (salted : nonce ≡ rfc4106_iv salt iv) (shorter : part ≡ rfc4106_associated aad) where
+  pub rfc4106_made : (size : ℕ) (v : Value) → gcm_seals key size nonce part text ≡ v → rfc4106_seals key salt size iv aad text ≡ v
+  rfc4106_made size v made =
+      ap (λ b. or_invalid (option_map (tagged size) (if b then Some (gcm_seal (seal key) (rfc4106_iv salt iv) (rfc4106_associated aad) text) else None))) taken
+      ∙ ap₂ (λ (n a : List ℕ). gcm_seals key size n a text) (sym salted) (sym shorter)
+      ∙ made
+
+  pub rfc4106_by : (tag : List ℕ) → rfc4106_opens key salt iv aad text tag ≡ gcm_opens key nonce part text tag
+  rfc4106_by tag =
+      ap (λ b. if b then or_bad_message (gcm_open (seal key) (rfc4106_iv salt iv) (rfc4106_associated aad) text tag) else invalid) taken
+      ∙ ap₂ (λ (n a : List ℕ). gcm_opens key n a text tag) (sym salted) (sym shorter)
 
 -- authenc: the cipher's text, and the front of the MAC behind it
 pub authenc_made_over : (block iv aad text mid new : List ℕ) (seals : List ℕ → List ℕ → Option (List ℕ)) (n size : ℕ) → seals iv text ≡ Some (take n mid)

@@ -1,7 +1,6 @@
 //! MACs of texts in pieces, which are read where they lie.
 
-ghost use Rattle.std.specs.Prelude.{◌≡◌, ◌+◌, ◌*◌, ◌^◌, ◌<◌, ◌≤◌, ℕ, List, ◌++◌, length, take, drop, MatchResult};
-ghost use Rattle.sha_lanes.specs.Hashers.{HasAbsorbed};
+ghost use Rattle.std.specs.Prelude.{◌≡◌, ◌+◌, ◌*◌, ◌^◌, ◌<◌, ◌≤◌, ◌++◌, length, take, drop, MatchResult};
 ghost use Rattle.std_defs.specs.Blocks.{xor_blocks, text_block};
 ghost use Rattle.std_defs.specs.Cmac.{chained, cmac, zero_block};
 ghost use Rattle.std_defs.specs.Hmac.{hmac_under};
@@ -18,34 +17,18 @@ use aes_block::{BlockCipher, xor_block};
 use cmac_ccm::Cmac;
 use hmac_sha::Mac;
 use kc_base::Errno;
-use sha_lanes::Sha256;
-use sha2::Digest;
+use piece_modes::mac_of_front;
 use transforms::{AnyMac, Inner, Keyed};
 
 /// How many blocks are gathered at a time.
 const BLOCKS: usize = 64;
 
-/// Hashes the pieces one after another.
-fn hash_pieces(hasher: &mut Sha256, pieces: &[Piece<'_>])
-    ensures { (m : List ℕ) → HasAbsorbed hasher.old m → HasAbsorbed hasher.new (m ++ text_in pieces.now) }
-{
-    for piece in pieces {
-        hasher.update(piece.bytes);
-    }
-}
-
-/// HMAC of the pieces' bytes as one message.
-#[tactic(auto, unfolding(std_defs::specs::Hmac::hmac_under))]
-fn hmac_of(mac: &Mac, pieces: &[Piece<'_>]) -> [u8; 32]
+/// HMAC of the pieces' bytes, of which there are `n`, as one message.
+fn hmac_of(mac: &Mac, pieces: &[Piece<'_>], n: usize) -> [u8; 32]
+    requires { n ≡ length (text_in pieces.now) }
     ensures { result ≡ hmac_under mac.now (text_in pieces.now) }
 {
-    // copying a hasher takes no memory, so it is always `Ok`
-    let mut inner = mac.inner().clone().unwrap();
-    hash_pieces(&mut inner, pieces);
-    let digest = inner.finalize();
-    let mut outer = mac.outer().clone().unwrap();
-    outer.update(digest.as_slice());
-    outer.finalize()
+    mac_of_front(mac, &[], pieces, n)
 }
 
 /// Adds a block to the chain.
@@ -150,7 +133,7 @@ fn make_mac(mac: &AnyMac, pieces: &[Piece<'_>], n: usize, room: &mut [u8; 32]) -
     ensures made { take result room.new ≡ makes_of mac.now (text_in pieces.now) }
 {
     match mac {
-        AnyMac::Hmac(mac) => put_mac(&hmac_of(mac, pieces), room),
+        AnyMac::Hmac(mac) => put_mac(&hmac_of(mac, pieces, n), room),
         AnyMac::Cmac(mac) => put_mac(&cmac_of(mac, pieces, n), room),
     }
 }

@@ -2,13 +2,14 @@
 
 ghost use Rattle.std.specs.Prelude.{◌≡◌, ◌≤◌, ◌<◌, ◌^◌, ◌+◌, ◌++◌, ◌==◌, ◌&&◌, length, map, take, drop, true, Some, IsTrue, IsFalse, MatchOption};
 ghost use Rattle.std_defs.specs.Gcm.{gcm_takes_tag};
+ghost use Rattle.std_defs.specs.Rfc4106.{rfc4106_takes_tag};
 ghost use Rattle.std_defs.specs.Value.Value.{bytes};
 ghost use Rattle.std_defs.specs.Hmac.{hmac_under};
 ghost use Rattle.transforms.specs.Ciphers as ciphers;
 ghost use Rattle.transforms.specs.Forms.{key_of};
 ghost use Rattle.transforms.specs.InPlace as in_place;
 ghost use Rattle.transforms.specs.InPlace.{sealing, unsealing, opening};
-ghost use Rattle.transforms.specs.Modes.{gcm_seals, gcm_opens, authenc_seals, authenc_opens};
+ghost use Rattle.transforms.specs.Modes.{gcm_seals, gcm_opens, rfc4106_seals, rfc4106_opens, authenc_seals, authenc_opens};
 ghost use Rattle.transforms.specs.Plans.{fits_tag, authenc_takes_tag};
 ghost use Rattle.transforms.specs.declared.inner.Inner.TheVariants as inner;
 ghost use Rattle.piece_modes.specs.Pieces.{text_over, size_of};
@@ -16,7 +17,7 @@ ghost use Rattle.perdoaze_calls.specs.Over.{OpensOver, OpensIn, Opens};
 
 use aes_block::{Skcipher, tags_differ};
 use authenc::Authenc;
-use gcm_mode::Gcm;
+use gcm_mode::{Gcm, Rfc4106, authenticated_bytes, takes_rfc4106_associated};
 use ghash_field::GhashKey;
 use hmac_sha::Mac;
 use piece_modes::{PieceCipher, PieceMut, mac_of_front, open_gcm, seal_gcm, write_at};
@@ -125,6 +126,72 @@ fn open_gcm_over<H: GhashKey + Drop>(
         return None;
     }
     Some(open_by_gcm(gcm, iv, aad, pieces, n, tag))
+}
+
+/// Seals the first `n` bytes under RFC 4106, and writes the tag behind them, where the IV has 8 bytes, and 16 or 20 are
+/// associated. Otherwise nothing is done.
+fn seal_rfc4106_over<H: GhashKey + Drop>(
+    mode: &Rfc4106<AnyAes, H>,
+    iv: &[u8],
+    aad: &[u8],
+    pieces: &mut [PieceMut<'_>],
+    n: usize,
+    tag_size: usize,
+) -> bool
+    requires within { n + tag_size ≤ length (text_over pieces.old) }
+    requires tag_taken { IsTrue (rfc4106_takes_tag tag_size) }
+    requires text_short { n < 2 ^ 32 }
+    ensures sealed { IsTrue result → (length iv.now ≡ 8)
+        × (rfc4106_seals (key_of mode.now.0) mode.now.1 tag_size iv.now aad.now (take n (text_over pieces.old))
+        ≡ bytes (take (n + tag_size) (text_over pieces.new))) }
+    ensures rest { drop (n + tag_size) (text_over pieces.new) ≡ drop (n + tag_size) (text_over pieces.old) }
+    ensures undone { IsFalse result → text_over pieces.new ≡ text_over pieces.old }
+    ensures sizes { map size_of pieces.new ≡ map size_of pieces.old }
+{
+    if iv.len() != 8 {
+        return false;
+    }
+    if !takes_rfc4106_associated(aad) {
+        return false;
+    }
+    let mut packet_iv = [0u8; 8];
+    packet_iv.copy_from_slice(iv);
+    let nonce = mode.nonce(&packet_iv);
+    let associated = authenticated_bytes(aad);
+    seal_by_gcm(mode.gcm(), &nonce, associated, pieces, n, tag_size);
+    true
+}
+
+/// Opens the first `n` bytes under RFC 4106, and answers whether the tag is right, where the IV has 8 bytes, and 16 or
+/// 20 are associated. Otherwise, and where the tag is wrong, they stay.
+fn open_rfc4106_over<H: GhashKey + Drop>(
+    mode: &Rfc4106<AnyAes, H>,
+    iv: &[u8],
+    aad: &[u8],
+    pieces: &mut [PieceMut<'_>],
+    n: usize,
+    tag: &[u8],
+) -> Option<bool>
+    requires within { n ≤ length (text_over pieces.old) }
+    requires tag_taken { IsTrue (rfc4106_takes_tag (length tag.now)) }
+    requires text_short { n < 2 ^ 32 }
+    ensures opened { MatchOption result (text_over pieces.new ≡ text_over pieces.old) (λ right. (length iv.now ≡ 8)
+        × OpensOver right (rfc4106_opens (key_of mode.now.0) mode.now.1 iv.now aad.now (take n (text_over pieces.old)) tag.now) n
+        (text_over pieces.old) (text_over pieces.new)) }
+    ensures rest { drop n (text_over pieces.new) ≡ drop n (text_over pieces.old) }
+    ensures sizes { map size_of pieces.new ≡ map size_of pieces.old }
+{
+    if iv.len() != 8 {
+        return None;
+    }
+    if !takes_rfc4106_associated(aad) {
+        return None;
+    }
+    let mut packet_iv = [0u8; 8];
+    packet_iv.copy_from_slice(iv);
+    let nonce = mode.nonce(&packet_iv);
+    let associated = authenticated_bytes(aad);
+    Some(open_by_gcm(mode.gcm(), &nonce, associated, pieces, n, tag))
 }
 
 /// Seals the first `n` bytes by a mode that goes over pieces. Whether it takes a text of that length: otherwise nothing
@@ -393,8 +460,8 @@ pub(crate) fn seal_over(
         Inner::Aead(aead) => match aead {
             AnyAead::BitGcm(gcm) => seal_gcm_over(gcm, iv, aad, pieces, n, tag_size),
             AnyAead::LaneGcm(gcm) => seal_gcm_over(&**gcm, iv, aad, pieces, n, tag_size),
-            AnyAead::BitRfc4106(_) => false,
-            AnyAead::LaneRfc4106(_) => false,
+            AnyAead::BitRfc4106(mode) => seal_rfc4106_over(mode, iv, aad, pieces, n, tag_size),
+            AnyAead::LaneRfc4106(mode) => seal_rfc4106_over(&**mode, iv, aad, pieces, n, tag_size),
             AnyAead::Ccm(_) => false,
             AnyAead::Authenc(mode) => seal_authenc(mode, iv, aad, pieces, n, tag_size),
         },
@@ -427,8 +494,8 @@ pub(crate) fn open_over(
         Inner::Aead(aead) => match aead {
             AnyAead::BitGcm(gcm) => open_gcm_over(gcm, iv, aad, pieces, n, tag),
             AnyAead::LaneGcm(gcm) => open_gcm_over(&**gcm, iv, aad, pieces, n, tag),
-            AnyAead::BitRfc4106(_) => None,
-            AnyAead::LaneRfc4106(_) => None,
+            AnyAead::BitRfc4106(mode) => open_rfc4106_over(mode, iv, aad, pieces, n, tag),
+            AnyAead::LaneRfc4106(mode) => open_rfc4106_over(&**mode, iv, aad, pieces, n, tag),
             AnyAead::Ccm(_) => None,
             AnyAead::Authenc(mode) => open_authenc(mode, iv, aad, pieces, n, tag),
         },

@@ -5,13 +5,21 @@ ghost use Rattle.perdoaze_calls.specs.Pieces.{text_in, most_on_stack};
 ghost use Rattle.piece_modes.specs.Pieces.{text_over, size_of};
 
 use crate::requests::copy_front;
-use piece_modes::PieceMut;
+use piece_modes::{PieceMut, ReadPiece};
 use std::alloc::{AllocError, Global};
 
 /// A piece of a text, as POSIX's `struct iovec`.
 #[repr(C)]
 pub struct Piece<'a> {
     pub bytes: &'a [u8],
+}
+
+impl ReadPiece for Piece<'_> {
+    ghost bytes_of = { λ p. p.bytes.now };
+
+    fn as_bytes(&self) -> &[u8] {
+        self.bytes
+    }
 }
 
 /// How many bytes the pieces have together, where they are fewer than 2^32.
