@@ -48,8 +48,10 @@ static size_t cuts(size_t n)
 
 static int compare(struct perdoaze *tfm, const struct perdoaze_info *info, size_t n)
 {
-	uint8_t iv[16] = { 1, 2, 3 }, aad[16] = { 4 };
-	const size_t aad_len = info->kind == PERDOAZE_AEAD ? 16 : 0, size = n + info->max_tag_size, behind = draw(9);
+	/* RFC 4106 takes the first two */
+	static const size_t aad_lens[3] = { 16, 20, 12 };
+	uint8_t iv[16] = { 1, 2, 3 }, aad[20] = { 4 };
+	const size_t aad_len = info->kind == PERDOAZE_AEAD ? aad_lens[draw(3)] : 0, size = n + info->max_tag_size, behind = draw(9);
 	size_t a = 7, b = 7;
 	int want, got;
 

@@ -38,15 +38,15 @@ static const uint8_t iv[16] = { 2 };
 
 static uint8_t text[MANY] = { 3 }, want[MANY + 32];
 
-/* Each malloc of a request over n bytes in two pieces in their place: where one fails, the pieces are as they were. How many there are,
- * or -1. */
-static long in_pieces(struct perdoaze *tfm, size_t n)
+/* Each malloc of a request over n bytes in two pieces in their place, under an IV and a tag of these sizes: where one fails, the pieces are
+ * as they were. How many there are, or -1. */
+static long in_pieces(struct perdoaze *tfm, size_t iv_len, size_t tag, size_t n)
 {
 	static uint8_t a[20], b[MANY + 12];
 	const struct iovec buffer[2] = { { a, 20 }, { b, n + 12 } };
 	size_t written = 7;
 
-	if (perdoaze_encrypt(tfm, iv, 16, text, 20, text, n, want, sizeof want, NULL))
+	if (perdoaze_encrypt(tfm, iv, iv_len, text, 20, text, n, want, sizeof want, NULL))
 		return -1;
 	for (long i = 0;; i++) {
 		int got;
@@ -54,10 +54,10 @@ static long in_pieces(struct perdoaze *tfm, size_t n)
 		memcpy(a, text, 20);
 		memcpy(b, text + 20, n - 20);
 		left = i;
-		got = perdoaze_encryptv_in_place(tfm, iv, 16, text, 20, buffer, 2, n, &written);
+		got = perdoaze_encryptv_in_place(tfm, iv, iv_len, text, 20, buffer, 2, n, &written);
 		if (!got && left >= 0) {
 			left = -1;
-			return written == n + 32 && !memcmp(a, want, 20) && !memcmp(b, want + 20, n + 12) ? i : -1;
+			return written == n + tag && !memcmp(a, want, 20) && !memcmp(b, want + 20, n + tag - 20) ? i : -1;
 		}
 		left = -1;
 		if (got != -ENOMEM || written || memcmp(a, text, 20) || memcmp(b, text + 20, n - 20))
@@ -94,9 +94,9 @@ static bool answers(struct perdoaze *tfm, const uint8_t *first)
 
 int main(void)
 {
-	struct perdoaze t = PERDOAZE_NONE, u = PERDOAZE_NONE, over_xts = PERDOAZE_NONE;
+	struct perdoaze t = PERDOAZE_NONE, u = PERDOAZE_NONE, esp = PERDOAZE_NONE, over_xts = PERDOAZE_NONE;
 	uint8_t first[64], out[64] = { 0 };
-	long inits, keys, dups, requests, few, many, copied, macs;
+	long inits, keys, dups, requests, few, many, walked, copied, macs;
 
 	if (perdoaze_init(&t, DRIVER))
 		return fail("init", -1);
@@ -115,14 +115,18 @@ int main(void)
 	if (perdoaze_dup(&t, &u))
 		return fail("dup", -1);
 	dups = used;
-	few = in_pieces(&t, FEW);
-	many = in_pieces(&t, MANY);
+	few = in_pieces(&t, 16, 32, FEW);
+	many = in_pieces(&t, 16, 32, MANY);
+	if (perdoaze_init(&esp, "rfc4106(gcm(aes))") || perdoaze_setkey(&esp, key, 20))
+		return fail("rfc4106", -1);
+	walked = in_pieces(&esp, 8, 16, MANY);
+	perdoaze_free(&esp);
 	if (perdoaze_init(&over_xts, OVER_XTS) || perdoaze_setkey(&over_xts, halves, sizeof halves))
 		return fail("xts", -1);
-	copied = in_pieces(&over_xts, MANY);
+	copied = in_pieces(&over_xts, 16, 32, MANY);
 	perdoaze_free(&over_xts);
 	macs = digests("hmac(sha256)") + digests("cmac(aes)");
-	if (few || many || copied < 1 || macs)
+	if (few || many || walked || copied < 1 || macs)
 		return fail("pieces", copied);
 	for (long i = 0; i < keys; i++) {
 		left = i;
@@ -141,7 +145,7 @@ int main(void)
 	}
 	perdoaze_free(&t);
 	perdoaze_free(&u);
-	printf("mallocs: init %ld, setkey %ld, dup %ld, encrypt %ld, encryptv_in_place %ld, %ld and %ld, digestv %ld\n", inits, keys, dups, requests,
-	       few, many, copied, macs);
+	printf("mallocs: init %ld, setkey %ld, dup %ld, encrypt %ld, encryptv_in_place %ld, %ld, %ld and %ld, digestv %ld\n", inits, keys, dups, requests,
+	       few, many, walked, copied, macs);
 	return requests ? fail("encrypt takes memory", requests) : 0;
 }

@@ -1,6 +1,6 @@
 -- What a request comes to, by what was kept of the key.
-use Rattle.std.proofs.Common.{◌≡◌, ℕ, ◌+◌, ◌-◌, ◌≤◌, ◌⊎◌, true, false, List, ◌++◌, length, take, drop, replicate, refl, sym, ap, ap₂, subst, ◌∙◌, arith, inl, inr, ⊎_elim, Option, Some, Result, Ok, Err, MatchResult, length-append, length-take, length-drop}
-use Rattle.std.proofs.lemmas.List.{drop-drop, take-append-drop, take-append-le, length-take-le, take_all}
+use Rattle.std.proofs.Common.{◌≡◌, ℕ, ◌+◌, ◌-◌, ◌≤◌, ◌⊎◌, List, ◌++◌, length, take, drop, replicate, refl, sym, ap, ap₂, subst, ◌∙◌, arith, inl, inr, ⊎_elim, Option, Some, Result, Ok, Err, MatchResult, length-append, length-drop}
+use Rattle.std.proofs.lemmas.List.{take-append-drop, take-append-le, length-take-le, take_all}
 use Rattle.std.proofs.lemmas.Slice.{drop-append-drop}
 use Rattle.std.proofs.Math.Seq.{take-append_seam, drop-append_seam}
 use Rattle.std_defs.specs.Value.{Value}

@@ -1,5 +1,5 @@
 -- CMAC of a text whose first blocks were taken into the chain before.
-use Rattle.std.proofs.Common.{◌≡◌, ℕ, zero, suc, ◌+◌, ◌-◌, ◌*◌, ◌/◌, ◌<◌, ◌≤◌, refl, sym, ap, ap₂, ◌∙◌, arith, List, ◌++◌, length, take, drop, replicate, get_or, bit_xor, append_assoc, length-append, length-drop}
+use Rattle.std.proofs.Common.{◌≡◌, ℕ, suc, ◌+◌, ◌-◌, ◌*◌, ◌/◌, ◌<◌, ◌≤◌, sym, ap, ap₂, ◌∙◌, arith, List, ◌++◌, length, take, drop, replicate, get_or, bit_xor, append_assoc, length-append, length-drop}
 use Rattle.std.specs.Int.Bits.{xor_zero_l}
 use Rattle.std.proofs.lemmas.List.{take_all, take-append-le, drop-append-le, drop_at, drop-drop, length-take-le, get_or-replicate}
 use Rattle.std_defs.specs.Blocks.{xor_blocks, text_block}

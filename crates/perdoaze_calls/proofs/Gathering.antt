@@ -1,6 +1,6 @@
 -- Pieces, one behind the other.
 use Rattle.std.proofs.Common.{◌≡◌, ℕ, suc, ◌+◌, ◌-◌, ◌≤◌, ◌<◌, min, List, [], ◌∷◌, ◌++◌, length, map, take, drop, get_or, set, refl, sym, ap, ap₂, subst, ◌∙◌, arith, append_assoc, append-nil, length-append, length-take, length-drop, drop-cons, take-append-drop}
-use Rattle.std.proofs.lemmas.List.{drop-drop, drop_all, length-take-le, take_all, nil_from_length, map-append, length-set, take_more_set, drop-set-lt, take_more}
+use Rattle.std.proofs.lemmas.List.{drop-drop, drop_all, length-take-le, nil_from_length, map-append, length-set, take_more_set, drop-set-lt, take_more}
 use Rattle.std.proofs.Math.Seq.{take-append_seam, drop-append_seam, take-add}
 use Rattle.sg_walk.proofs.Joined.{piece_first}
 use Rattle.perdoaze_calls.specs.Pieces.{text_in}

@@ -1,5 +1,5 @@
 -- Which sizes of keys a plan takes, and which tags.
-use Rattle.std.proofs.Common.{◌≡◌, ℕ, suc, ◌+◌, ◌-◌, ◌≤◌, ◌⊎◌, Bool, true, false, List, [], ◌∷◌, length, take, drop, replicate, Option, Some, None, if◌then◌else◌, true≢false, refl, sym, ap, ◌∙◌, arith, inl, inr, ⊎_elim, lit≤, length-drop}
+use Rattle.std.proofs.Common.{◌≡◌, ℕ, ◌+◌, ◌-◌, ◌≤◌, ◌⊎◌, Bool, true, false, List, [], ◌∷◌, length, take, drop, replicate, Some, None, if◌then◌else◌, true≢false, refl, sym, ap, ◌∙◌, arith, inl, inr, ⊎_elim, lit≤, length-drop}
 use Rattle.std.specs.Prelude.{◌==◌, ◌&&◌, ◌||◌, nat_le, bytes_eq}
 use Rattle.std.specs.Int.{w32, from_be_bytes}
 use Rattle.std.proofs.lemmas.Bool.{eqb-true, leb-true, le-leb}
@@ -7,7 +7,7 @@ use Rattle.std.proofs.lemmas.List.{length-replicate}
 use Rattle.std_defs.specs.Authenc.{blob, is_blob, blob_keys, mac_key_length, cipher_key_length}
 use Rattle.templates.specs.declared.driver_plans.Plan.{Plan}
 use Rattle.templates.specs.declared.driver_plans.Plan.TheVariants.{Cbc, Ctr, Rfc3686, Xts, Gcm, Rfc4106, Ccm, Hmac, Cmac, AuthencCbc, AuthencCtr, AuthencRfc3686, AuthencXts}
-use Rattle.transforms.specs.Plans.{takes_key, takes_tag, is_key_length, is_salted_length, is_doubled_length, by_keys}
+use Rattle.transforms.specs.Plans.{takes_key, is_key_length, is_salted_length, is_doubled_length, by_keys}
 use Rattle.perdoaze_calls.specs.Infos.{least_key, greatest_key, no_limit}
 use Rattle.perdoaze_calls.specs.Laws.{TakesSize}
 

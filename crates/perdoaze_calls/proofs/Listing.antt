@@ -1,5 +1,5 @@
 -- The list of all drivers: each plan has one place there; and the fastest of each algorithm.
-use Rattle.std.proofs.Common.{◌≡◌, ℕ, zero, suc, ◌+◌, ◌*◌, ◌/◌, ◌≤◌, List, [], ◌∷◌, map, Option, Some, None, refl, sym, ap, ◌∙◌, arith, lit≤, slice_get}
+use Rattle.std.proofs.Common.{◌≡◌, ℕ, zero, suc, ◌+◌, ◌*◌, ◌/◌, ◌≤◌, List, [], ◌∷◌, map, Some, refl, sym, ap, ◌∙◌, arith, lit≤, slice_get}
 use Rattle.templates.specs.declared.driver_plans.AesForm.{AesForm}
 use Rattle.templates.specs.declared.driver_plans.AesForm.TheVariants.{AesGeneric, AesTable, AesLanes}
 use Rattle.templates.specs.declared.driver_plans.GhashForm.{GhashForm}

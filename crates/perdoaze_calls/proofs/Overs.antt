@@ -1,5 +1,5 @@
 -- A text in pieces that is changed where they lie.
-use Rattle.std.proofs.Common.{◌≡◌, ℕ, ◌+◌, ◌-◌, ◌≤◌, Bool, true, false, List, [], ◌∷◌, ◌++◌, length, map, take, drop, refl, sym, ap, ap₂, subst, ◌∙◌, arith, Option, Some, None, inl, inr, ⊎_elim, length-append, length-take, length-drop, take-append-drop}
+use Rattle.std.proofs.Common.{◌≡◌, ℕ, ◌+◌, ◌-◌, ◌≤◌, true, false, List, [], ◌∷◌, ◌++◌, length, map, take, drop, refl, sym, ap, ap₂, subst, ◌∙◌, arith, Option, Some, None, inl, inr, ⊎_elim, length-append, length-drop, take-append-drop}
 use Rattle.std.specs.Prelude.{◌==◌, ◌&&◌, ◌||◌, if◌then◌else◌, nat_le, bytes_eq}
 use Rattle.std.specs.Option.{option_map}
 use Rattle.std.proofs.lemmas.Bool.{eqb-true, leb-true}
@@ -17,7 +17,7 @@ use Rattle.aes_block.specs.Opened.{IsRefusal}
 use Rattle.kc_base.specs.declared.error_numbers.Errno.{Errno}
 use Rattle.templates.specs.declared.driver_plans.Plan.{Plan}
 use Rattle.transforms.specs.InPlace as kept
-use Rattle.transforms.specs.InPlace.{sealing, unsealing, opening}
+use Rattle.transforms.specs.InPlace.{unsealing, opening}
 use Rattle.transforms.specs.Modes.{gcm_seals, gcm_opens, rfc4106_seals, rfc4106_opens, authenc_seals, authenc_opens}
 use Rattle.transforms.specs.Tagged.{tagged}
 use Rattle.perdoaze_calls.proofs.Answering.{IsKey, has_value}
@@ -27,7 +27,6 @@ use Rattle.piece_modes.specs.Pieces.{text_over, size_of}
 use Rattle.piece_modes.specs.declared.piece.PieceMut.{PieceMut}
 use Rattle.perdoaze_calls.specs.Over.{Opens}
 use Rattle.perdoaze_calls.specs.Requests.{DecryptsWithin}
-use Rattle.perdoaze_calls.specs.declared.status.Status.{Status}
 use Rattle.perdoaze_calls.specs.declared.status.Status.TheVariants.{Done, BadMessage}
 use Rattle.perdoaze_calls.specs.declared.transform.Transform.{Transform}
 

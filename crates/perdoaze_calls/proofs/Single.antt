@@ -1,5 +1,5 @@
 -- A text in one piece.
-use Rattle.std.proofs.Common.{◌≡◌, ℕ, List, [], ◌∷◌, ◌++◌, length, get_or, set, sym, ap, subst, ◌∙◌, arith, append-nil}
+use Rattle.std.proofs.Common.{◌≡◌, ℕ, List, [], ◌∷◌, length, get_or, set, sym, subst, ◌∙◌, arith, append-nil}
 use Rattle.piece_modes.specs.Pieces.{text_over}
 use Rattle.perdoaze_calls.specs.Requests.{EncryptsWithin, DecryptsWithin}
 use Rattle.piece_modes.specs.declared.piece.PieceMut.{PieceMut}

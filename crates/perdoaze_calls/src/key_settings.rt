@@ -1,6 +1,6 @@
 //! The key and the tag size of a transform.
 
-ghost use Rattle.std.specs.Prelude.{◌≡◌, Some};
+ghost use Rattle.std.specs.Prelude.{Some};
 ghost use Rattle.perdoaze_calls.specs.Settings.{KeySet, SizeSet};
 
 use crate::status::Status;

@@ -1,13 +1,11 @@
 //! Several encryptions at one call.
 
-ghost use Rattle.std.specs.Prelude.{◌≡◌, ◌<◌, ◌≤◌, ◌+◌, ◌^◌, ℕ, [], pos, Some, None, IsTrue, IsFalse, length, map, slice_index, slice_index_or};
+ghost use Rattle.std.specs.Prelude.{◌≡◌, ◌<◌, ◌≤◌, ◌+◌, ◌^◌, ℕ, [], Some, IsTrue, IsFalse, length, map, slice_index, slice_index_or};
 ghost use Rattle.in_step.specs.Pieces.{piece};
-ghost use Rattle.jobs_in_step.specs.Steps.{tag_room};
 ghost use Rattle.perdoaze_calls.specs.Many.{CameTo, FitsInStep, question_of, iv_in, aad_in, len_in, written_in, status_in, bytes_in};
 ghost use Rattle.piece_modes.specs.Pieces.{size_of};
 ghost use Rattle.perdoaze_calls.specs.Requests.{EncryptsWithin};
 ghost use Rattle.perdoaze_calls.specs.Status.{code_of};
-ghost use Rattle.perdoaze_calls.specs.Under.{key_within};
 
 use crate::encryption::Encryption;
 use crate::status::Status;

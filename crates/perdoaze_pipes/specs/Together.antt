@@ -5,7 +5,7 @@ use Rattle.std_defs.specs.Value.{Value}
 use Rattle.transforms.specs.AskValue.{ask_value}
 use Rattle.transforms.specs.declared.job.Job.{Job}
 use Rattle.perdoaze_pipes.specs.declared.task.Task.{Task}
-use Rattle.perdoaze_pipes.specs.declared.task.Task.TheVariants.{Idle, Ready, Ran}
+use Rattle.perdoaze_pipes.specs.declared.task.Task.TheVariants.{Ready, Ran}
 use Rattle.perdoaze_pipes.specs.declared.together.Out.{Out}
 
 -- the value of its ask

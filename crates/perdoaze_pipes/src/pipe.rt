@@ -6,7 +6,7 @@ ghost use Rattle.transforms.specs.declared.request.Finished.{Finished as Outcome
 ghost use Rattle.perdoaze_pipes.specs.Calls.{Drains};
 ghost use Rattle.perdoaze_pipes.specs.Submission.{Begins};
 ghost use Rattle.perdoaze_pipes.specs.declared.answer.Answer.TheVariants as answers;
-ghost use Rattle.perdoaze_pipes.specs.Polls.{IsRefilled, IsCollected, collecting, Tells, HasNoRoom, Polls, event_of};
+ghost use Rattle.perdoaze_pipes.specs.Polls.{IsRefilled, IsCollected, collecting, Tells, HasNoRoom, Polls};
 
 use crate::answer::Answer;
 use crate::event::Event;

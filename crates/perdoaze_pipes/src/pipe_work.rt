@@ -1,7 +1,6 @@
 //! How workers take jobs of a pipe, and finish them.
 
-ghost use Rattle.std.specs.Prelude.{◌≡◌, ◌↔◌, ◌≤◌, ◌-◌, None, true, IsTrue, IfSome, get_or};
-ghost use Rattle.perdoaze_pipes.specs.Outcomes.{outcome};
+ghost use Rattle.std.specs.Prelude.{◌↔◌, ◌≤◌, ◌-◌, None, true, IsTrue};
 ghost use Rattle.perdoaze_pipes.specs.PipeWork.{Takes, Finishes, IsMine, IsOrderAlone};
 ghost use Rattle.perdoaze_pipes.specs.Orders.{FinishedBy};
 

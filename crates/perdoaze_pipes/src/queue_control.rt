@@ -1,7 +1,5 @@
 //! How a pipe's queue is held and let go, and the workers of its pad are named.
 
-ghost use Rattle.std.specs.Prelude.{◌≡◌, MatchResult};
-ghost use Rattle.board.specs.declared.entry.BoardEntry.TheVariants as Entry;
 ghost use Rattle.perdoaze_pipes.specs.QueueControl.{Holds, Goes, Masks};
 
 use crate::answer::Answer;

@@ -1,6 +1,6 @@
 //! One pipeline on a board of its own, and the jobs of it that workers run.
 
-ghost use Rattle.std.specs.Prelude.{◌≡◌, ◌≢◌, ◌≤◌, ◌<◌, ◌-◌, ◌↔◌, ◌^◌, true, false, [], ◌∷◌, ◌++◌, length, Some, None, get_or, set, replicate, slice_get, IfOk, IfErr, OnOk, IfSome, MatchResult, MatchOption, MatchBool};
+ghost use Rattle.std.specs.Prelude.{◌≡◌, ◌≢◌, ◌≤◌, ◌<◌, ◌-◌, ◌↔◌, ◌^◌, true, false, [], ◌∷◌, ◌++◌, length, Some, None, get_or, replicate, IfOk, IfErr, IfSome, MatchResult, MatchOption, MatchBool};
 ghost use Rattle.std.specs.Arc.{arc_value};
 ghost use Rattle.std.specs.declared.sync.Arc.{Arc};
 ghost use Rattle.std.specs.declared.alloc.Global.{Global as GlobalMemory};

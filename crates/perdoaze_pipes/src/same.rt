@@ -1,7 +1,6 @@
 //! Whether two asks are one.
 
-ghost use Rattle.std.specs.Prelude.{◌≡◌, ◌==◌, ◌↔◌, true, length, IsTrue};
-ghost use Rattle.std.specs.Str.{bytes_eq};
+ghost use Rattle.std.specs.Prelude.{◌≡◌, ◌==◌, ◌↔◌, true, IsTrue};
 ghost use Rattle.perdoaze_pipes.specs.Same.{IsSame, is_same_text};
 
 use sg_walk::Segs;

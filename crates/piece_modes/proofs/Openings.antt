@@ -1,5 +1,5 @@
 -- What opening GCM gives, by the test of the tag.
-use Rattle.std.proofs.Common.{◌≡◌, ℕ, List, refl, sym, ap, ◌∙◌, inl, Some, None, cond, true, false, length, take, bytes_eq}
+use Rattle.std.proofs.Common.{◌≡◌, ℕ, List, sym, ap, ◌∙◌, Some, None, cond, true, false, length, take, bytes_eq}
 use Rattle.std_defs.specs.Gcm.{BlockFunction, gcm_text, gcm_tag, gcm_open}
 use Rattle.std_defs.specs.Value.{Value, or_bad_message}
 use Rattle.std_defs.specs.Value.Value.{bytes, bad_message}

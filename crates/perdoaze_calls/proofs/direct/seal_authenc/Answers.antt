@@ -1,4 +1,4 @@
-use Rattle.std.proofs.Common.{◌≡◌, ◌+◌, ◌≤◌, length, take, refl, arith}
+use Rattle.std.proofs.Common.{length, take, refl, arith}
 use Rattle.std.proofs.lemmas.List.{length-take-le}
 use Rattle.perdoaze_calls.proofs.Making.{authenc_made, tagged_rest}
 use Rattle.perdoaze_calls.proofs.direct.seal_authenc.Goals as goal

@@ -1,4 +1,4 @@
-use Rattle.std.proofs.Common.{◌≡◌, ℕ, suc, ◌/◌, List, ◌++◌, length, drop, ap₂, ◌∙◌, arith}
+use Rattle.std.proofs.Common.{ℕ, suc, ◌/◌, List, ◌++◌, length, drop, ap₂, ◌∙◌}
 use Rattle.std_defs.specs.Aes.{seal}
 use Rattle.std_defs.specs.Blocks.{joined}
 use Rattle.std_defs.specs.Modes.{cbc_block}

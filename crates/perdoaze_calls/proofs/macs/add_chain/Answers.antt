@@ -1,4 +1,4 @@
-use Rattle.std.proofs.Common.{◌≡◌, ◌∙◌, ◌++◌, ℕ, List, ap, ap₂, drop, length}
+use Rattle.std.proofs.Common.{◌∙◌, ◌++◌, ℕ, List, ap, ap₂, drop, length}
 use Rattle.std_defs.specs.Blocks.{xor_blocks}
 use Rattle.std_defs.proofs.Joined.{xor_blocks-length}
 use Rattle.perdoaze_calls.proofs.macs.add_chain.Goals as goal

@@ -1,4 +1,4 @@
-use Rattle.std.proofs.Common.{◌≡◌, ◌∙◌, ◌+◌, ◌*◌, ◌/◌, ◌%◌, ℕ, List, refl, sym, ap, arith}
+use Rattle.std.proofs.Common.{◌≡◌, ◌∙◌, ◌+◌, ◌*◌, ◌/◌, ◌%◌, refl, ap, arith}
 use Rattle.std_defs.specs.Cmac.{chained, zero_block}
 use Rattle.perdoaze_calls.specs.Pieces.{text_in}
 use Rattle.perdoaze_calls.proofs.macs.chain_of.Goals as goal

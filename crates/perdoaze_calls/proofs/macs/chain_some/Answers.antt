@@ -1,4 +1,4 @@
-use Rattle.std.proofs.Common.{◌≡◌, ◌∙◌, ◌+◌, ℕ, List, sym, ap, arith, add-zero, drop}
+use Rattle.std.proofs.Common.{◌≡◌, ◌∙◌, ◌+◌, ℕ, sym, ap, arith, add-zero}
 use Rattle.std_defs.specs.Cmac.{chained, zero_block}
 use Rattle.perdoaze_calls.specs.Pieces.{text_in}
 use Rattle.perdoaze_calls.proofs.Chained.{chained_more, gathered_block}

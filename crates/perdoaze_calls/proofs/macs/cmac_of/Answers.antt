@@ -1,4 +1,4 @@
-use Rattle.std.proofs.Common.{◌≡◌, ◌∙◌, ◌-◌, ◌*◌, ◌/◌, ℕ, List, refl, ap, arith, take, replicate}
+use Rattle.std.proofs.Common.{◌∙◌, ◌-◌, ◌*◌, ◌/◌, ℕ, List, refl, ap, arith, take, replicate}
 use Rattle.std_defs.specs.Cmac.{chained, cmac, zero_block}
 use Rattle.perdoaze_calls.specs.Pieces.{text_in}
 use Rattle.perdoaze_calls.proofs.Answering.{whole_gathered, text_copied}

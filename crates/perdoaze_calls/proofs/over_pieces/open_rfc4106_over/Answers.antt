@@ -1,4 +1,4 @@
-use Rattle.std.proofs.Common.{◌≡◌, ◌∙◌, List, ℕ, ap, sym, subst, take}
+use Rattle.std.proofs.Common.{◌∙◌, List, ℕ, ap, sym, subst, take}
 use Rattle.std_defs.specs.Rfc4106.{rfc4106_iv}
 use Rattle.piece_modes.specs.Pieces.{text_over}
 use Rattle.transforms.specs.Forms.{key_of}

@@ -1,4 +1,4 @@
-use Rattle.std.proofs.Common.{◌≡◌, List, ℕ, ◌∙◌, ap, arith, refl, length, take, sym}
+use Rattle.std.proofs.Common.{◌≡◌, List, ℕ, ◌∙◌, ap, arith, refl, length, take}
 use Rattle.std.proofs.lemmas.List.{length-take-le}
 use Rattle.piece_modes.specs.Pieces.{text_over}
 use Rattle.std_defs.specs.Aes.{seal}

@@ -1,4 +1,4 @@
-use Rattle.std.proofs.Common.{◌≡◌, take, length, sym, arith}
+use Rattle.std.proofs.Common.{◌≡◌, take, length, sym}
 use Rattle.std.proofs.lemmas.List.{length-take-le}
 use Rattle.piece_modes.specs.Pieces.{text_over}
 use Rattle.piece_modes.proofs.Tags.{tag_is}

@@ -1,4 +1,4 @@
-use Rattle.std.proofs.Common.{◌≡◌, ◌+◌, ◌<◌, ◌≤◌, [], arith, ap, length, get_or}
+use Rattle.std.proofs.Common.{◌+◌, ◌<◌, ◌≤◌, arith, ap, length}
 use Rattle.sg_walk.proofs.Steps.{walked_none, walked_past, walked_on, walked_same, walked_all}
 use Rattle.piece_modes.specs.Pieces.{parts_of}
 use Rattle.piece_modes.proofs.Parts.{count_is}
