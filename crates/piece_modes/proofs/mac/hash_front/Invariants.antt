@@ -1,4 +1,4 @@
-use Rattle.std.proofs.Common.{◌≡◌, ℕ, List, ◌++◌, ◌+◌, take, drop}
+use Rattle.std.proofs.Common.{◌≡◌, ℕ, List, ◌++◌, take, drop}
 use Rattle.sha_lanes.specs.Hashers.{HasAbsorbed}
 use Rattle.piece_modes.specs.Pieces.{text_by}
 use Rattle.piece_modes.proofs.mac.hash_front.Given as goal
