@@ -8,3 +8,4 @@ pub mod Chained
 pub mod Making
 pub mod Single
 pub mod Overs
+pub mod Pointers

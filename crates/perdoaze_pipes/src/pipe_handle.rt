@@ -2,7 +2,8 @@
 
 ghost use Rattle.std.specs.Prelude.{◌≡◌, Option, Some, None, true, false};
 ghost use Rattle.perdoaze_pipes.specs.declared.pipe.Pipe.{Pipe};
-ghost use Rattle.perdoaze_pipes.specs.PipePlaces.{held_at, is_filled};
+ghost use Rattle.perdoaze_calls.specs.Slots.{is_filled};
+ghost use Rattle.perdoaze_pipes.specs.PipePlaces.{held_at};
 
 use crate::pipe::Pipe;
 use perdoaze_calls::Loose;

@@ -2,7 +2,8 @@
 
 ghost use Rattle.std.specs.Prelude.{◌≡◌, Option, Some, None, true, false};
 ghost use Rattle.perdoaze_pipes.specs.declared.task.Task.{Task};
-ghost use Rattle.perdoaze_pipes.specs.TaskPlaces.{held_at, is_filled};
+ghost use Rattle.perdoaze_calls.specs.Slots.{is_filled};
+ghost use Rattle.perdoaze_pipes.specs.TaskPlaces.{held_at};
 
 use crate::task::Task;
 use perdoaze_calls::Loose;

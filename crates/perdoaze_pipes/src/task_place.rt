@@ -3,7 +3,7 @@
 ghost use Rattle.std.specs.Prelude.{◌≡◌, Some, None};
 ghost use Rattle.std.specs.Option.{option_map};
 ghost use Rattle.std.specs.Box.{box_value};
-ghost use Rattle.perdoaze_pipes.specs.TaskPlaces.{is_filled};
+ghost use Rattle.perdoaze_calls.specs.Slots.{is_filled};
 
 use crate::task::Task;
 use crate::task_handle::TaskHandle;

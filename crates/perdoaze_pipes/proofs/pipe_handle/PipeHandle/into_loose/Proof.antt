@@ -24,8 +24,9 @@ use denote.Struct.Struct.{within}
 use denote.Struct.Owning.{shape}
 use Rattle.core.proofs.alloc.Calls.{Goes-blank}
 use contract.Monad.{fact}
-use Rattle.perdoaze_pipes.specs.PipePlaces.{freed_by, held_at, is_filled}
-use Rattle.perdoaze_pipes.proofs.PipeFilled.{held_in}
+use Rattle.perdoaze_calls.specs.Slots.{freed_by, is_filled}
+use Rattle.perdoaze_calls.proofs.Filled.{held_in}
+use Rattle.perdoaze_pipes.specs.PipePlaces.{held_at}
 use Rattle.perdoaze_pipes.specs.declared.pipe.Pipe.{Pipe}
 use Rattle.std_alloc.specs.Box.Ownership.{box_owns}
 use Rattle.std_heap.specs.contracts.Global as global

@@ -1,7 +1,7 @@
 -- `discard` lets a handle go that owns nothing.
 use Rattle.std.proofs.Common.{◌≡◌, List, [], ◌∷◌, ◌++◌, refl, sym, subst, lit<}
 use Rattle.std.specs.Prelude.{Option, None, false}
-use mir.Val.{Val, vstruct, vcons, vnil, vunit, of_list}
+use mir.Val.{Val, vstruct, vunit, of_list}
 use base.Logic.{SProp, ent, id⊢}
 use prog.Wp.{WpFn}
 use contract.Running.{tables}
@@ -13,7 +13,6 @@ use denote.RattleType.{owns}
 use denote.Exit.{yes}
 use denote.Laws.{Typed}
 use denote.RawPtr.{Ptr, block_ptr, null_ptr, ptr_val}
-use mir.Syntax.{ty_ptr}
 use denote.Signature.{plain, types_at}
 use denote.Steps.{nothing, heard}
 use denote.Triple.Entry.{alive}
@@ -21,8 +20,10 @@ use denote.Triple.Walked.{Stays, stay_dropped, walk_of, ends_at}
 use contract.Monad.{fact}
 use Rattle.core.proofs.alloc.Calls.{Goes-blank}
 use Rattle.std.proofs.raw_atomic.Walks.{proved_at}
-use Rattle.perdoaze_pipes.specs.TaskPlaces.{held_at, is_filled}
-use Rattle.perdoaze_pipes.proofs.TaskFilled.{nothing_in}
+use Rattle.perdoaze_calls.specs.Slots.{is_filled}
+use Rattle.perdoaze_pipes.specs.TaskPlaces.{held_at}
+use Rattle.perdoaze_calls.proofs.Filled.{nothing_in}
+use Rattle.perdoaze_calls.proofs.Pointers.{word, pointer_fits}
 use Rattle.perdoaze_pipes.specs.declared.task.Task.{Task}
 use Rattle.perdoaze_pipes.specs.contracts.task_handle.TaskHandle.{the_row}
 use Rattle.perdoaze_pipes.specs.contracts.task_handle.TaskHandle.discard as f
@@ -31,14 +32,6 @@ use Rattle.perdoaze_pipes.proofs.task_handle.TaskHandle.discard.Code as code
 
 abbrev stayed : Stays f.ended.signature.params f.ended.kept
 stayed = (stay_dropped _ yes, tt)
-
-abbrev word : Ptr → Val
-word p = vstruct (vcons (ptr_val p) vnil)
-
--- a pointer's value has its type, and so has a handle's
-pointer_fits : (p : Ptr) → Typed (ty_ptr ∷ []) (ptr_val p ∷ [])
-pointer_fits (block_ptr b o) = ((tt, tt), tt)
-pointer_fits null_ptr = ((tt, record { fits = lit< tt }), tt)
 
 word_fits : (p : Ptr) → Typed the_row.mir (word p ∷ [])
 word_fits (block_ptr b o) = ((tt, (tt, tt)), tt)

@@ -28,7 +28,7 @@ use Rattle.std_heap.specs.contracts.Global as global
 use Rattle.std_heap.specs.contracts.GlobalAllocator.TheImpl.{ghosts}
 use Rattle.std_heap.proofs.Global.TheLaws as heap
 use Rattle.std.proofs.raw_atomic.Walks.{proved_at}
-use Rattle.perdoaze_pipes.specs.TaskPlaces.{freed_by}
+use Rattle.perdoaze_calls.specs.Slots.{freed_by}
 use Rattle.perdoaze_pipes.specs.contracts.task.Task as tfm
 use Rattle.perdoaze_calls.specs.contracts.loose.Loose as loose
 use Rattle.perdoaze_pipes.specs.contracts.task_handle.TaskHandle.{the_type}
