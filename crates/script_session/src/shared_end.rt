@@ -1,6 +1,6 @@
 //! The end of input of the first script, when those have ended that shared its transforms.
 
-ghost use Rattle.std.specs.Prelude.{◌≡◌, [], MatchResult};
+ghost use Rattle.std.specs.Prelude.{◌≡◌, [], false, MatchResult};
 ghost use Rattle.board.specs.Alone.{PeersGone};
 ghost use Rattle.board.specs.Legal.{LegalBoard};
 ghost use Rattle.turn_lock.specs.Passes.{knows};

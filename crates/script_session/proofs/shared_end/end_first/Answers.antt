@@ -7,8 +7,8 @@ use Rattle.script_session.specs.Loans.{HasLent}
 use Rattle.script_session.proofs.Joined.{meets-first, to-move, may-leave, first-done, first-more, first-ended}
 use Rattle.script_session.proofs.shared_end.end_first.Goals as goal
 
-pub end_shared-requires-clause-lent : goal.end_shared-requires-clause-lent
-end_shared-requires-clause-lent g c =
+pub end_shared-held-requires-clause-lent : goal.end_shared-held-requires-clause-lent
+end_shared-held-requires-clause-lent g c =
     let m = known c.meet.new.self in
     let meets = meets-first c.args.pass c.new-caller.result m c.new-caller.ensures c.requires.joined.ended c.meet.ensures.turn c.meet.ensures.kept c.meet.ensures.again c.meet.ensures.gone in
     subst (λ ls. AreToMove HasLent ls m) (sym (c.as_slice-lives.ensures.value ∙ c.shared.view_is)) (to-move c.args.shared.now (knows c.args.pass) m c.requires.joined meets)

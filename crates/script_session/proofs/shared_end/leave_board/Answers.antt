@@ -3,10 +3,10 @@ use Rattle.script_session.proofs.Joined.{as-pass, as-caller, shuts-board, meets-
 use Rattle.script_session.proofs.shared_end.leave_board.Goals as goal
 
 pub shut-requires-clause-caller : goal.shut-requires-clause-caller
-shut-requires-clause-caller g c = (as-pass c.args.held.now _ c.args.caller c.into_pass-pass.result c.in-Ok.is c.into_pass-pass.ensures c.requires.may).gone.first
+shut-requires-clause-caller g c κs within = (as-pass c.args.held.now _ c.args.caller c.into_pass-pass.result c.in-Ok.is c.into_pass-pass.ensures c.requires.may).gone.first
 
 pub shut-requires-clause-once : goal.shut-requires-clause-once
-shut-requires-clause-once g c = (as-pass c.args.held.now _ c.args.caller c.into_pass-pass.result c.in-Ok.is c.into_pass-pass.ensures c.requires.may).once
+shut-requires-clause-once g c κs within = (as-pass c.args.held.now _ c.args.caller c.into_pass-pass.result c.in-Ok.is c.into_pass-pass.ensures c.requires.may).once
 
 pub returns-in-Ok-clause-left : goal.returns-in-Ok-clause-left
 returns-in-Ok-clause-left g c =
