@@ -1,6 +1,6 @@
 -- The end of input of the first script, when the others have ended.
-use Rattle.std.proofs.Common.{◌≡◌, ℕ, ◌+◌, ◌<◌, ◌≤◌, Bool, true, false, cond, arith, List, [], ◌∷◌, ◌++◌, length, map, Option, Some, None, refl, sym, ap, subst, ◌∙◌, append-nil, append_assoc, take, drop, slice_index_or}
-use Rattle.std.specs.Prelude.{◌==◌, All}
+use Rattle.std.proofs.Common.{◌≡◌, ℕ, ◌+◌, ◌<◌, ◌≤◌, Bool, true, false, cond, arith, List, [], ◌∷◌, ◌++◌, length, map, Option, Some, None, Result, Ok, Err, refl, sym, ap, subst, ◌∙◌, append-nil, append_assoc, take, drop, slice_index_or}
+use Rattle.std.specs.Prelude.{◌==◌, All, MatchResult}
 use Rattle.std.specs.List.{flat_map}
 use Rattle.std.proofs.lemmas.Bool.{eqb-true}
 use Rattle.std.proofs.lemmas.List.{length-map, take_more, drop_more, take-append-drop, take_all}
@@ -19,6 +19,7 @@ use Rattle.reply_text.specs.declared.answers.Answer.{Answer}
 use Rattle.transforms.specs.declared.ask.Ask.{Ask}
 use Rattle.transforms.specs.declared.request.Finished.{Finished}
 use Rattle.turn_lock.specs.PassLaws.{AtTurn, Enters, Leaves, IsOwn}
+use Rattle.turn_lock.specs.Passes.{knows}
 use Rattle.turn_lock.specs.Turns.{Known, Has, sees}
 use Rattle.dialogues.specs.BoardCalls.{BoardCall, Goes, Collects, Shuts, origin_of}
 use Rattle.dialogues.specs.Dialogues.{Dialogue, Ends, Posts}
@@ -26,12 +27,16 @@ use Rattle.dialogues.specs.PipelineCommands.{lets_go, let_all_go, drains_at_end,
 use Rattle.dialogues.specs.Questions.{Shut}
 use Rattle.dialogues.specs.Transcripts.{IsTranscript}
 use Rattle.dialogues.specs.ScriptState.{Live, PipelineState}
-use Rattle.recorded_calls.specs.Pipelines.{Owns, Unchanged, IsShut, notice_by}
+use Rattle.recorded_calls.specs.Passes.{BoardPass, known}
+use Rattle.recorded_calls.specs.Pipelines.{Owns, Unchanged, notice_by}
 use Rattle.recorded_calls.specs.SharedCalls.{SharingLaws, KnowsLent, KnowsGathered, HaveEnded, Rejoined, Rejoins, Beside, Gathers, DrainedLent, GatheredHandsAll}
-use Rattle.recorded_calls.proofs.Boarding.{kept-same, called-more}
+use Rattle.recorded_calls.proofs.BoardCalls.{shut-changed}
+use Rattle.recorded_calls.proofs.Boarding.{kept-same, called-more, leaves-kept}
+use Rattle.recorded_calls.proofs.Gathers.{shut-ended, shut-gathered, joined-gone, sees-own}
 use Rattle.script_session.specs.TransformChanges.{AreApart}
 use Rattle.script_session.specs.EndOfInput.{LeadsBy, EndsShut}
-use Rattle.script_session.specs.SharedEnd.{IsJoined, EndsFirst, StopsFirst, GoesBeside, SeesBeside, HasFreed, HasDelivered, MovesLent, MovesAllLent, AreToMove, EndsLent}
+use Rattle.script_session.specs.PerformedDialogue.{HasSeenMore}
+use Rattle.script_session.specs.SharedEnd.{IsJoined, EndsFirst, StopsFirst, GoesBeside, SeesBeside, HasFreed, HasDelivered, MovesLent, MovesAllLent, AreToMove, EndsLent, MayShut, ShutsBeside, MeetsBeside}
 use Rattle.script_session.specs.Loans.{HasLent}
 use Rattle.script_session.specs.States.{is_at, owners}
 use Rattle.script_session.specs.CallbackText.{callback_said}
@@ -297,18 +302,68 @@ ends-lent lives k l m none answers text text' empty lets drains put =
       says = put ∙ ap (λ a. text ++ flat_map text_of a) (drains.says ∙ (ap (λ x. x ++ drains.said) empty ∙ ap (λ x. x ++ drains.said) lets.says));
     }
 
+-- ---- turns
+
+-- a turn without an entry leaves who has ended
+turn-ended : (k l : Known (BoardEntry Ask)) → AtTurn caller_of LegalBoard k (λ h. Leaves k h l) → l.ended ≡ k.ended
+turn-ended k l turn = ap (λ (x : Known (BoardEntry Ask)). x.ended) turn.2
+
+-- workers alone are left after the shut too
+shut-gone : SharingLaws → (k l : Known (BoardEntry Ask)) → PeersGone k → AtTurn caller_of LegalBoard k (λ h. Enters LegalBoard k h (event.Shut k.number) l) → PeersGone l
+shut-gone laws k l gone turn =
+    subst PeersGone (sym turn.2.0) ((laws.gone k turn.0 (event.Shut k.number) turn.1 gone).1 gone.first)
+
+pub shuts-board : SharingLaws → (k l : Known (BoardEntry Ask)) → PeersGone k → AtTurn caller_of LegalBoard k (λ h. Enters LegalBoard k h (event.Shut k.number) l) → ShutsBeside k l
+shuts-board laws k l gone turn =
+    record {
+      shut = shut-changed laws.laws k l turn;
+      ended = shut-ended k l turn;
+      gone = shut-gone laws k l gone turn;
+      gathered = λ pipe on. shut-gathered laws k l pipe turn gone on;
+    }
+
+pub meets-board : SharingLaws → (k l : Known (BoardEntry Ask)) → HaveEnded k → AtTurn caller_of LegalBoard k (λ h. Leaves k h l) → MeetsBeside k l
+meets-board laws k l have turn =
+    record { kept = leaves-kept laws.laws k l turn.0 turn.1 turn.2; ended = turn-ended k l turn; own = sees-own k l turn; gone = joined-gone laws k l have turn }
+
+-- the caller's pass is at hand, and how the end was held is known
+pub as-pass : {S A : Type 0} (held given : Result A S) (caller : Option BoardPass) (pass : BoardPass) → held ≡ given → caller ≡ Some pass → MatchResult held (λ _. MayShut (known caller)) (λ _. HaveEnded (known caller))
+    → MatchResult given (λ _. MayShut (knows pass)) (λ _. HaveEnded (knows pass))
+as-pass held given caller pass is same may =
+    subst (λ o. MatchResult given (λ _. MayShut (known o)) (λ _. HaveEnded (known o))) same (subst (λ r. MatchResult r (λ _. MayShut (known caller)) (λ _. HaveEnded (known caller))) is may)
+
+pub as-caller : {S A : Type 0} (held given : Result A S) (caller : Option BoardPass) (pass : BoardPass) (l : Known (BoardEntry Ask)) → held ≡ given → caller ≡ Some pass
+    → MatchResult given (λ _. ShutsBeside (knows pass) l) (λ _. MeetsBeside (knows pass) l) → MatchResult held (λ _. ShutsBeside (known caller) l) (λ _. MeetsBeside (known caller) l)
+as-caller held given caller pass l is same left =
+    subst (λ r. MatchResult r (λ _. ShutsBeside (known caller) l) (λ _. MeetsBeside (known caller) l)) (sym is)
+    (subst (λ o. MatchResult given (λ _. ShutsBeside (known o) l) (λ _. MeetsBeside (known o) l)) (sym same) left)
+
 -- ---- the whole end
 
-pub to-move : (lives : List Live) (j m : Known (BoardEntry Ask)) → IsJoined lives j → Unchanged j m → PeersGone m → ((b : Known (BoardEntry Ask)) → IsOwn caller_of b → Rejoined b j → Rejoins b m) → AreToMove HasLent lives m
-to-move lives j m is kept gone again =
-    let was = again is.before is.own is.rejoined in
-    record { legal = kept.legal; gone = gone; pipes = lent-stay is.before m lives (by_lent was) is.lent; apart = is.apart }
+-- What the first caller knows at its first turn, when the others have been joined into its pass.
+pub record MeetsFirst (j m : Known (BoardEntry Ask)) : Type 0 where
+  pub kept : Unchanged j m
+  pub had : m.ended ≡ j.ended
+  pub gone : PeersGone m
+  pub again : (b : Known (BoardEntry Ask)) → IsOwn caller_of b → Rejoined b j → Rejoins b m
+
+-- the pass is a caller's by then
+pub meets-first : (pass : BoardPass) (o : Option BoardPass) (m : Known (BoardEntry Ask)) → o ≡ Some pass → HaveEnded (knows pass) → AtTurn caller_of LegalBoard (known o) (λ h. Leaves (known o) h m) → Unchanged (known o) m
+    → ((b : Known (BoardEntry Ask)) → IsOwn caller_of b → Rejoined b (known o) → Rejoins b m) → (HaveEnded (known o) → PeersGone m) → MeetsFirst (knows pass) m
+meets-first pass o m same have turn kept again gone =
+    let first : MeetsFirst (known o) m = record { kept = kept; had = turn-ended (known o) m turn; gone = gone (subst (λ x. HaveEnded (known x)) (sym same) have); again = again } in
+    subst (λ x. MeetsFirst (known x) m) same first
+
+pub to-move : (lives : List Live) (j m : Known (BoardEntry Ask)) → IsJoined lives j → MeetsFirst j m → AreToMove HasLent lives m
+to-move lives j m is meets =
+    let was = meets.again is.before is.own is.rejoined in
+    record { legal = meets.kept.legal; gone = meets.gone; pipes = lent-stay is.before m lives (by_lent was) is.lent; apart = is.apart }
   where
     by_lent : Rejoins is.before m → (other : Option PipelineState) → HasLent is.before other → HasLent m other
     by_lent was None on = tt
     by_lent was (Some other) on = was.lent other on
 
-pub still-ended : (j m : Known (BoardEntry Ask)) → m.number ≡ j.number → m.next ≡ j.next → m.ended ≡ j.ended → HaveEnded j → HaveEnded m
+still-ended : (j m : Known (BoardEntry Ask)) → m.number ≡ j.number → m.next ≡ j.next → m.ended ≡ j.ended → HaveEnded j → HaveEnded m
 still-ended j m number next ended have =
     record {
       first = number ∙ have.first;
@@ -316,6 +371,19 @@ still-ended j m number next ended have =
           let was = have.ended n low (subst (λ x. n < x) next high) in
           (was.0, subst (λ xs. Has (λ x. x ≡ (n, was.0)) xs) (sym ended) was.1);
     }
+
+-- the board isn't shut yet
+still-unshut : (lives : List Live) (j m : Known (BoardEntry Ask)) → IsJoined lives j → MeetsFirst j m → is_shut m.seen ≡ false
+still-unshut lives j m is meets =
+    let was = meets.again is.before is.own is.rejoined in
+    was.kept.unshut (sym was.number ∙ (meets.kept.called.number ∙ is.ended.first)) ∙ is.unshut
+
+-- the board may be left
+pub may-leave : {S A : Type 0} (held : Result A S) (ended lives : List Live) (j m n : Known (BoardEntry Ask)) (text text' : List ℕ) → IsJoined lives j → MeetsFirst j m → MatchResult held (λ _. EndsLent ended m n text text') (λ _. SeesBeside m n)
+    → MatchResult held (λ _. MayShut n) (λ _. HaveEnded n)
+may-leave (Ok done) ended lives j m n text text' is meets ends = record { gone = ends.goes.gone; once = ends.goes.unshut ∙ still-unshut lives j m is meets }
+may-leave (Err stop) ended lives j m n text text' is meets sees =
+    still-ended j n (sees.sees.more.number ∙ meets.kept.called.number) (sees.sees.more.next ∙ meets.kept.called.next) (sees.ended ∙ meets.had) is.ended
 
 -- who owns a pipeline has it among these
 paid-among : (lives : List Live) (p : ℕ) (k : Known (BoardEntry Ask)) → 1 ≤ owners p lives → All (λ (x : Live). HasDelivered k x.pipe) lives → (pipe : PipelineState) × (pipe.number ≡ p) × KnowsGathered k pipe × (pipe.delivered ≡ length pipe.lines)
@@ -333,76 +401,73 @@ gathered-drained law k pipe legal on paid =
     law k.seen pipe.number legal (on.lent.delivered ∙ (paid ∙ (ap length (sym on.lines) ∙ length-map (submissions (entries_of pipe.number k.seen)) origin_of)))
 
 module _ (drained : HandingAllDrains) (hands : (k : Known (BoardEntry Ask)) (pipe : PipelineState) → GatheredHandsAll k pipe) (lives : List Live) (j m n l : Known (BoardEntry Ask)) (text text' : List ℕ)
-    (is : IsJoined lives j) (kept : Unchanged j m) (had : m.ended ≡ j.ended) (again : (b : Known (BoardEntry Ask)) → IsOwn caller_of b → Rejoined b j → Rejoins b m)
-    (e : EndsLent lives m n text text') (shut : IsShut n l) (same : l.ended ≡ n.ended) (gone : PeersGone l) (stays : (pipe : PipelineState) → KnowsGathered n pipe → KnowsGathered l pipe) where
+    (is : IsJoined lives j) (meets : MeetsFirst j m) (e : EndsLent lives m n text text') (shuts : ShutsBeside n l) where
   -- the shut is an entry of no pipeline
-  entries_are : (p : ℕ) → entries_of p l.seen ≡ entries_of p shut.before
-  entries_are p = ap (entries_of p) shut.last ∙ (filter-append (is_of p) shut.before (event.Shut n.number ∷ []) ∙ append-nil (entries_of p shut.before))
+  entries_are : (p : ℕ) → entries_of p l.seen ≡ entries_of p shuts.shut.before
+  entries_are p = ap (entries_of p) shuts.shut.last ∙ (filter-append (is_of p) shuts.shut.before (event.Shut n.number ∷ []) ∙ append-nil (entries_of p shuts.shut.before))
 
-  owns-then : (p : ℕ) → Owns (sees n shut.before) p → (pipe : PipelineState) × (pipe.number ≡ p) × KnowsGathered l pipe × (pipe.delivered ≡ length pipe.lines)
+  owns-then : (p : ℕ) → Owns (sees n shuts.shut.before) p → (pipe : PipelineState) × (pipe.number ≡ p) × KnowsGathered l pipe × (pipe.delivered ≡ length pipe.lines)
   owns-then p owns =
-      let was = again is.before is.own is.rejoined in
-      let here = e.goes.owned p (shut.kept.owned p owns) in
+      let was = meets.again is.before is.own is.rejoined in
+      let here = e.goes.owned p (shuts.shut.kept.owned p owns) in
       let first = was.kept.owned p (subst (MayManage (entries_of p m.seen)) was.number here.0, here.1) in
       let one = paid-among lives p n (is.owned p first) e.paid in
-      (one.0, one.1, stays one.0 one.2, one.3)
+      (one.0, one.1, shuts.gathered one.0 one.2, one.3)
 
   ends-shut-first : EndsShut l
   ends-shut-first =
-      let before = shut.before in
-      let number = shut.called.number in
+      let before = shuts.shut.before in
+      let number = shuts.shut.called.number in
       record {
         before = before;
-        shut = shut.last ∙ ap (λ x. before ++ event.Shut x ∷ []) (sym number);
+        shut = shuts.shut.last ∙ ap (λ x. before ++ event.Shut x ∷ []) (sym number);
         finished = λ p may open_ended.
             let one = owns-then p (subst (MayManage (entries_of p before)) number may, open_ended) in
-            let all = gathered-drained drained l one.0 shut.legal one.2 one.3 in
+            let all = gathered-drained drained l one.0 shuts.shut.legal one.2 one.3 in
             subst (λ es. front es ≡ length (submissions es)) (entries_are p)
             (subst (λ x. front (entries_of x l.seen) ≡ length (submissions (entries_of x l.seen))) one.1 all.0);
       }
 
-  pub ends-first : EndsFirst lives j l text text'
+  ends-first : EndsFirst lives j l text text'
   ends-first =
       let calls = e.calls ++ Shuts ∷ [] in
       record {
         calls = calls;
         said = e.said ++ [];
-        called = called-more j m l [] calls kept.called (called-more m n l e.calls (Shuts ∷ []) e.goes.called shut.called);
+        called = called-more j m l [] calls meets.kept.called (called-more m n l e.calls (Shuts ∷ []) e.goes.called shuts.shut.called);
         is = λ script_state lives_are. subst (λ ls. IsTranscript (let_all_go ls (drain_all ls (Posts Shut λ done. Ends script_state))) (record { registry = []; board = calls; answers = e.said ++ []; after = Some script_state })) (sym lives_are)
             (e.leads (Posts Shut λ done. Ends script_state) [] (Shuts ∷ []));
         says = e.says ∙ ap (λ a. text ++ flat_map text_of a) (sym (append-nil e.said));
-        own = shut.own;
-        ended = same ∙ (e.goes.ended ∙ had);
+        own = shuts.shut.own;
+        ended = shuts.ended ∙ (e.goes.ended ∙ meets.had);
         shut = ends-shut-first;
-        gone = gone;
+        gone = shuts.gone;
         handed = λ p owns.
-            let one = owns-then p (subst (MayManage (entries_of p shut.before)) shut.called.number (subst (λ es. MayManage es l.number) (entries_are p) owns.0), ap is_closed (sym (entries_are p)) ∙ owns.1) in
-            subst (λ x. completed (handed_out (entries_of x l.seen)) ≡ numbers_below (length (submissions (entries_of x l.seen)))) one.1 (hands l one.0 shut.legal one.2 one.3);
+            let one = owns-then p (subst (MayManage (entries_of p shuts.shut.before)) shuts.shut.called.number (subst (λ es. MayManage es l.number) (entries_are p) owns.0), ap is_closed (sym (entries_are p)) ∙ owns.1) in
+            subst (λ x. completed (handed_out (entries_of x l.seen)) ≡ numbers_below (length (submissions (entries_of x l.seen)))) one.1 (hands l one.0 shuts.shut.legal one.2 one.3);
       }
 
--- the board isn't shut yet
-pub still-unshut : (lives : List Live) (j m : Known (BoardEntry Ask)) → IsJoined lives j → Unchanged j m → ((b : Known (BoardEntry Ask)) → IsOwn caller_of b → Rejoined b j → Rejoins b m) → is_shut m.seen ≡ false
-still-unshut lives j m is kept again =
-    let was = again is.before is.own is.rejoined in
-    was.kept.unshut (sym was.number ∙ (kept.called.number ∙ is.ended.first)) ∙ is.unshut
-
-pub stops-first : (lives : List Live) (j m n o : Known (BoardEntry Ask)) → IsJoined lives j → Unchanged j m → m.ended ≡ j.ended → ((b : Known (BoardEntry Ask)) → IsOwn caller_of b → Rejoined b j → Rejoins b m)
-    → SeesBeside m n → Unchanged n o → o.ended ≡ n.ended → IsOwn caller_of o → PeersGone o → StopsFirst j o
-stops-first lives j m n o is kept had again stops later same own gone =
-    let zero_is : m.number ≡ 0 = kept.called.number ∙ is.ended.first in
+stops-first : (lives : List Live) (j m n l : Known (BoardEntry Ask)) → IsJoined lives j → MeetsFirst j m → SeesBeside m n → MeetsBeside n l → StopsFirst j l
+stops-first lives j m n l is meets sees last =
+    let zero_is : m.number ≡ 0 = meets.kept.called.number ∙ is.ended.first in
     record {
-      sees = sees-on j m o (kept-sees j m kept) (sees-on m n o stops.sees (kept-sees n o later));
-      own = own;
-      ended = same ∙ (stops.ended ∙ had);
-      gone = gone;
-      unshut = later.unshut (stops.sees.more.number ∙ zero_is) ∙ (stops.sees.unshut zero_is ∙ still-unshut lives j m is kept again);
+      sees = sees-on j m l (kept-sees j m meets.kept) (sees-on m n l sees.sees (kept-sees n l last.kept));
+      own = last.own;
+      ended = last.ended ∙ (sees.ended ∙ meets.had);
+      gone = last.gone;
+      unshut = last.kept.unshut (sees.sees.more.number ∙ zero_is) ∙ (sees.sees.unshut zero_is ∙ still-unshut lives j m is meets);
     }
 
--- a turn without an entry leaves who has ended
-pub turn-ended : (k l : Known (BoardEntry Ask)) → AtTurn caller_of LegalBoard k (λ h. Leaves k h l) → l.ended ≡ k.ended
-turn-ended k l turn = ap (λ (x : Known (BoardEntry Ask)). x.ended) turn.2
+pub first-done : {S A : Type 0} → HandingAllDrains → ((k : Known (BoardEntry Ask)) (pipe : PipelineState) → GatheredHandsAll k pipe) → (held : Result A S) (lives : List Live) (j m n l : Known (BoardEntry Ask)) (text text' : List ℕ)
+    → IsJoined lives j → MeetsFirst j m → MatchResult held (λ _. EndsLent lives m n text text') (λ _. SeesBeside m n) → MatchResult held (λ _. ShutsBeside n l) (λ _. MeetsBeside n l)
+    → MatchResult held (λ _. EndsFirst lives j l text text') (λ _. StopsFirst j l)
+first-done drained hands (Ok done) lives j m n l text text' is meets ends shuts = ends-first drained hands lives j m n l text text' is meets ends shuts
+first-done drained hands (Err stop) lives j m n l text text' is meets sees last = stops-first lives j m n l is meets sees last
 
--- workers alone are left after the shut too
-pub shut-gone : SharingLaws → (k l : Known (BoardEntry Ask)) → PeersGone k → AtTurn caller_of LegalBoard k (λ h. Enters LegalBoard k h (event.Shut k.number) l) → PeersGone l
-shut-gone laws k l gone turn =
-    subst PeersGone (sym turn.2.0) ((laws.gone k turn.0 (event.Shut k.number) turn.1 gone).1 gone.first)
+pub first-more : {S A : Type 0} (held : Result A S) (lives : List Live) (j l : Known (BoardEntry Ask)) (text text' : List ℕ) → MatchResult held (λ _. EndsFirst lives j l text text') (λ _. StopsFirst j l) → HasSeenMore j l
+first-more (Ok done) lives j l text text' ends = record { number = ends.called.number; next = ends.called.next; seen = ends.called.seen }
+first-more (Err stop) lives j l text text' stops = stops.sees.more
+
+pub first-ended : {S A : Type 0} (held : Result A S) (lives : List Live) (j l : Known (BoardEntry Ask)) (text text' : List ℕ) → MatchResult held (λ _. EndsFirst lives j l text text') (λ _. StopsFirst j l) → l.ended ≡ j.ended
+first-ended (Ok done) lives j l text text' ends = ends.ended
+first-ended (Err stop) lives j l text text' stops = stops.ended

@@ -16,7 +16,7 @@ use Rattle.dialogues.specs.Dialogues.{Dialogue}
 use Rattle.dialogues.specs.PipelineCommands.{let_all_go, drain_all, end}
 use Rattle.dialogues.specs.Transcripts.{IsTranscript}
 use Rattle.dialogues.specs.ScriptState.{ScriptState, Live, PipelineState}
-use Rattle.recorded_calls.specs.Pipelines.{Called, Owns}
+use Rattle.recorded_calls.specs.Pipelines.{Called, Owns, Unchanged, IsShut}
 use Rattle.recorded_calls.specs.SharedCalls.{KnowsGathered, HaveEnded, Rejoined}
 use Rattle.script_session.specs.TransformChanges.{AreApart}
 use Rattle.script_session.specs.EndOfInput.{LeadsBy, EndsShut}
@@ -127,3 +127,24 @@ pub record EndsLent (lives : List Live) (k l : Known (BoardEntry Ask)) (text tex
   pub leads : LeadsBy (λ rest. let_all_go lives (drain_all lives rest)) calls said
   pub paid : All (λ (live : Live). HasDelivered l live.pipe) lives
   pub says : text' ≡ text ++ flat_map text_of said
+
+-- ---- the shut
+
+-- Workers alone are left beside the first caller, and it hasn't shut the board.
+pub record MayShut (k : Known (BoardEntry Ask)) : Type 0 where
+  pub gone : PeersGone k
+  pub once : is_shut k.seen ≡ false
+
+-- It shut the board beside them: each pipeline that it shares is as it was.
+pub record ShutsBeside (k l : Known (BoardEntry Ask)) : Type 0 where
+  pub shut : IsShut k l
+  pub ended : l.ended ≡ k.ended
+  pub gone : PeersGone l
+  pub gathered : (pipe : PipelineState) → KnowsGathered k pipe → KnowsGathered l pipe
+
+-- It took a turn, at which it has seen all that it did, and workers alone are left beside it.
+pub record MeetsBeside (k l : Known (BoardEntry Ask)) : Type 0 where
+  pub kept : Unchanged k l
+  pub ended : l.ended ≡ k.ended
+  pub own : IsOwn caller_of l
+  pub gone : PeersGone l

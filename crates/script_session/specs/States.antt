@@ -77,6 +77,11 @@ pub record State : Type 0 where
 abbrev pub PadsHaveAListPerWorker : State → Type 0
 PadsHaveAListPerWorker s = MadeWide (lists_beside s.workers) (known s.board)
 
+-- what its passes know of registry and board is its script's state
+pub record StateMatches (s : State) : Type 0 where
+  pub stands : ReferencesMatch s.script_state.lives (known s.registry)
+  pub posted : PipelinesMatch s.script_state (known s.board)
+
 -- both passes are still of their locks, as many workers stand beside the script, and it shares the same
 pub record SameLocks (s s' : State) : Type 0 where
   pub registry : lock_of s'.registry ≡ lock_of s.registry

@@ -14,7 +14,7 @@ ghost use Rattle.script_session.specs.BrokenOff.{CallsOn, StopsMaking};
 ghost use Rattle.script_session.specs.Creation.{CreatedLive};
 ghost use Rattle.script_session.specs.Alloc.{looks, MakesLive, AddsLive};
 ghost use Rattle.recorded_calls.specs.Passes.{CallsRegistry, known, lock_of, CallsBoard};
-ghost use Rattle.script_session.specs.States.{ReferencesMatch, PipelinesMatch};
+ghost use Rattle.script_session.specs.States.{PipelinesMatch, StateMatches};
 ghost use Rattle.script_session.specs.PerformedDialogue.{Performs, StopsIn};
 
 use crate::answers::{answer_errno, say};
@@ -163,8 +163,7 @@ impl Session {
     ) -> Result<(), Stop>
         requires at_registry { CallsRegistry registry.now self.old.registry }
         requires at_board { CallsBoard board.now self.old.board }
-        requires stands { ReferencesMatch self.old.script_state.lives (known self.old.registry) }
-        requires posted { PipelinesMatch self.old.script_state (known self.old.board) }
+        requires state { StateMatches self.old }
         requires few { self.old.workers ≤ 16 }
         requires free { live_of self.old.script_state wanted.now.label.now ≡ None }
         requires fits { is_queue_length wanted.now.length ≡ true }
@@ -197,8 +196,7 @@ impl Session {
     ) -> Result<(), Stop>
         requires at_registry { CallsRegistry registry.now self.old.registry }
         requires at_board { CallsBoard board.now self.old.board }
-        requires stands { ReferencesMatch self.old.script_state.lives (known self.old.registry) }
-        requires posted { PipelinesMatch self.old.script_state (known self.old.board) }
+        requires state { StateMatches self.old }
         requires few { self.old.workers ≤ 16 }
         requires free { live_of self.old.script_state wanted.now.label.now ≡ None }
         requires seen { IsSome (slice_get (registered (known self.old.registry).seen) id) }
@@ -232,8 +230,7 @@ impl Session {
     ) -> Result<(), Stop>
         requires at_registry { CallsRegistry registry.now self.old.registry }
         requires at_board { CallsBoard board.now self.old.board }
-        requires stands { ReferencesMatch self.old.script_state.lives (known self.old.registry) }
-        requires posted { PipelinesMatch self.old.script_state (known self.old.board) }
+        requires state { StateMatches self.old }
         requires few { self.old.workers ≤ 16 }
         requires free { live_of self.old.script_state wanted.now.label.now ≡ None }
         requires nested { is_nested_well name.now ≡ true }
@@ -263,8 +260,7 @@ impl Session {
     ) -> Result<(), Stop>
         requires at_registry { CallsRegistry registry.now self.old.registry }
         requires at_board { CallsBoard board.now self.old.board }
-        requires stands { ReferencesMatch self.old.script_state.lives (known self.old.registry) }
-        requires posted { PipelinesMatch self.old.script_state (known self.old.board) }
+        requires state { StateMatches self.old }
         requires few { self.old.workers ≤ 16 }
         ensures { MatchResult result
             (λ _. Performs (alloc self.old.workers self.old.script_state number wanted.now.label.now name.now wanted.now.length)
@@ -301,8 +297,7 @@ impl Session {
     ) -> Result<(), Stop>
         requires at_registry { CallsRegistry registry.now self.old.registry }
         requires at_board { CallsBoard board.now self.old.board }
-        requires stands { ReferencesMatch self.old.script_state.lives (known self.old.registry) }
-        requires posted { PipelinesMatch self.old.script_state (known self.old.board) }
+        requires state { StateMatches self.old }
         ensures { MatchResult result
             (λ _. Performs (free self.old.script_state number label.now) self.old self.new answers.old.items answers.new.items)
             (λ _. StopsIn (free self.old.script_state number label.now) self.old self.new) }

@@ -3,9 +3,8 @@
 ghost use Rattle.std.specs.Prelude.{◌≡◌, ◌<◌, ◌≤◌, ◌^◌, ℕ, true, Some, IfOk, MatchResult};
 ghost use Rattle.dialogues.specs.Bulk.{bulk, bulk_counter, bulk_digest as digest_of, bulk_said, bulk_text, is_ctr};
 ghost use Rattle.reply_text.specs.declared.answers.Answer.TheVariants.{Refused};
-ghost use Rattle.recorded_calls.specs.Passes.{known};
 ghost use Rattle.script_session.specs.PerformedDialogue.{Performs, StopsIn};
-ghost use Rattle.script_session.specs.States.{ReferencesMatch, PipelinesMatch};
+ghost use Rattle.script_session.specs.States.{StateMatches};
 ghost use Rattle.transforms.specs.Forms.{key_of};
 
 use crate::answers::{answer_errno, say};
@@ -121,8 +120,7 @@ impl Session {
         seed: u32,
         answers: &mut Vec<Answer>,
     ) -> Result<(), Stop>
-        requires stands { ReferencesMatch self.old.script_state.lives (known self.old.registry) }
-        requires posted { PipelinesMatch self.old.script_state (known self.old.board) }
+        requires state { StateMatches self.old }
         ensures { MatchResult result
             (λ _. Performs (bulk self.old.script_state number label.now size seed) self.old self.new answers.old.items answers.new.items)
             (λ _. StopsIn (bulk self.old.script_state number label.now size seed) self.old self.new) }

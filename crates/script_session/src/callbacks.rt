@@ -1,6 +1,6 @@
 //! The answers to what pipelines hand out.
 
-ghost use Rattle.std.specs.Prelude.{◌≡◌, ◌+◌, ◌*◌, ◌≤◌, ◌++◌, ◌∷◌, [], length, map, sum_by, OnOk};
+ghost use Rattle.std.specs.Prelude.{◌≡◌, ◌+◌, ◌*◌, ◌≤◌, ◌++◌, length, map, sum_by, OnOk};
 ghost use Rattle.std.specs.List.{flat_map};
 ghost use Rattle.board.specs.HandedOut.{completions};
 ghost use Rattle.dialogues.specs.PipelineCommands.{completion_said};

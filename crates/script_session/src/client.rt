@@ -1,10 +1,11 @@
 //! The script of a client beside others.
 
-ghost use Rattle.std.specs.Prelude.{◌≡◌, Some, OnOk, MatchResult};
+ghost use Rattle.std.specs.Prelude.{◌≡◌, Some, OnOk, OnErr, MatchResult};
 ghost use Rattle.std.specs.Arc.{arc_value};
 ghost use Rattle.dialogues.specs.ScriptState.{start_beside};
 ghost use Rattle.script_session.specs.EndOfInput.{AnswersEndBeside, EndsDelivered};
 ghost use Rattle.script_session.specs.PerformedDialogue.{Stops};
+ghost use Rattle.script_session.specs.ReplyText.{SaysTold};
 ghost use Rattle.script_session.specs.States.{ReferencesMatch, PipelinesMatch};
 ghost use Rattle.recorded_calls.specs.Passes.{known, CallsBoard};
 
@@ -56,7 +57,8 @@ impl Session {
 
     /// Answers the end of input of a client, as `end` does but that the board stays open for the others: held queues
     /// are let go, and each live transform of the client's own is drained, both in order of allocation. No line comes
-    /// after it. `Stop` comes for want of memory alone.
+    /// after it. `Stop` comes for want of memory alone. The reply has the text of what its pipelines handed out up to
+    /// then, and no other callback.
     pub fn end_client<R: Wait, G: Gate>(
         &mut self,
         rt: &R,
@@ -71,6 +73,7 @@ impl Session {
             (λ _. AnswersEndBeside self.old self.new reply.old.text reply.new.text)
             (λ _. Stops self.old self.new) }
         ensures paid { OnOk result (EndsDelivered (known self.new.board)) }
+        ensures told { OnErr result (SaysTold (known self.old.board) (known self.new.board) reply.old.text reply.new.text) }
     {
         only_collects_hand_out::<Ask>();
         let mut lives = self.lives.take_all(self.alloc)?;

@@ -9,7 +9,7 @@ ghost use Rattle.reply_text.specs.Answers.{text_of};
 ghost use Rattle.dialogues.specs.PipelineCommands.{drains_at_end, drain_all, end_said};
 ghost use Rattle.script_session.specs.EndOfInput.{PipelinesMatchState, AreAllDelivered, AllDelivered, StopsMoving};
 ghost use Rattle.script_session.specs.ReplyText.{SaysFor, SaysBy, BreaksFor, BreaksOff, SaysMove, SaysMoves, SaysTold, collects, collected_said, Collected};
-ghost use Rattle.script_session.specs.States.{HasPipe, ReferencesMatch, PipelinesMatch};
+ghost use Rattle.script_session.specs.States.{HasPipe, StateMatches};
 ghost use Rattle.recorded_calls.specs.Passes.{known, lock_of, CallsBoard};
 ghost use Rattle.recorded_calls.specs.Pipelines.{KnowsPipe, Unchanged};
 ghost use Rattle.transforms.specs.AskValue.{ask_size};
@@ -127,8 +127,7 @@ impl Session {
         reply: &mut Reply,
     ) -> Result<(), Stop>
         requires at { CallsBoard board.now self.old.board }
-        requires stands { ReferencesMatch self.old.script_state.lives (known self.old.registry) }
-        requires posted { PipelinesMatch self.old.script_state (known self.old.board) }
+        requires state { StateMatches self.old }
         ensures { MatchResult result
             (λ _. SaysBy 1 (collects waits self.old.script_state number label.now) self.old self.new reply.old.text reply.new.text)
             (λ _. BreaksOff (collects waits self.old.script_state number label.now) self.old self.new reply.old.text reply.new.text) }

@@ -3,7 +3,6 @@
 ghost use Rattle.std.specs.Prelude.{◌≡◌, ◌≢◌, ◌↔◌, ◌≤◌, [], Some, MatchResult, IfOk, IfErr, IsTrue, true, false};
 ghost use Rattle.board.specs.declared.board_core.BoardErr.TheVariants as BoardErr;
 ghost use Rattle.script_session.specs.BrokenOff.{CallsOn};
-ghost use Rattle.script_session.specs.PerformedDialogue.{SeesOn};
 ghost use Rattle.script_session.specs.Offers.{Offered};
 ghost use Rattle.recorded_calls.specs.Pipelines.{KnowsPipe, Unchanged};
 ghost use Rattle.dialogues.specs.AllocAndFree.{lists_beside, is_chained, queue_shape, shape_for};

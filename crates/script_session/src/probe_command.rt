@@ -7,8 +7,8 @@ ghost use Rattle.dialogues.specs.Probe.{found_said, probe};
 ghost use Rattle.recorded_calls.specs.Looks.{Builds, Goes, found_result};
 ghost use Rattle.recorded_calls.specs.Passes.{CallsRegistry, known};
 ghost use Rattle.script_session.specs.PerformedDialogue.{PerformsBy, StopsIn};
-ghost use Rattle.script_session.specs.Probe.{Searched, IsRead, entry_of, MaySettle, LooksFirst, LooksSome, IsSaid, SettlesThen};
-ghost use Rattle.script_session.specs.States.{ReferencesMatch, PipelinesMatch};
+ghost use Rattle.script_session.specs.Probe.{Searched, IsRead, entry_of, MaySettle, LooksFirst, LooksSome, SettlesThen};
+ghost use Rattle.script_session.specs.States.{StateMatches};
 ghost use Rattle.templates.specs.LookResults.{Found};
 
 use crate::name_limits::read_name;
@@ -172,8 +172,7 @@ impl Session {
         answers: &mut Vec<Answer>,
     ) -> Result<(), Stop>
         requires at { CallsRegistry registry.now self.old.registry }
-        requires stands { ReferencesMatch self.old.script_state.lives (known self.old.registry) }
-        requires posted { PipelinesMatch self.old.script_state (known self.old.board) }
+        requires state { StateMatches self.old }
         ensures { MatchResult result
             (λ _. PerformsBy (length names.now) (probe self.old.script_state number names.now)
             self.old self.new answers.old.items answers.new.items)

@@ -2,9 +2,9 @@
 
 ghost use Rattle.std.specs.Prelude.{MatchResult};
 ghost use Rattle.dialogues.specs.RegistryCommands.{register, unregister, refs, listed};
-ghost use Rattle.recorded_calls.specs.Passes.{CallsRegistry, known};
-ghost use Rattle.script_session.specs.States.{ReferencesMatch, PipelinesMatch};
-ghost use Rattle.script_session.specs.PerformedDialogue.{Performs, Stops, StopsIn};
+ghost use Rattle.recorded_calls.specs.Passes.{CallsRegistry};
+ghost use Rattle.script_session.specs.States.{StateMatches};
+ghost use Rattle.script_session.specs.PerformedDialogue.{Performs, StopsIn};
 
 use crate::answers::{answer_errno, enlisted_answer, refs_answer, say, unlisted_answer};
 use crate::drivers::driver_of;
@@ -31,8 +31,7 @@ impl Session {
         answers: &mut Vec<Answer>,
     ) -> Result<(), Stop>
         requires at { CallsRegistry registry.now self.old.registry }
-        requires stands { ReferencesMatch self.old.script_state.lives (known self.old.registry) }
-        requires posted { PipelinesMatch self.old.script_state (known self.old.board) }
+        requires state { StateMatches self.old }
         ensures { MatchResult result
             (λ _. Performs (register self.old.script_state number driver.now priority)
             self.old self.new answers.old.items answers.new.items)
@@ -58,8 +57,7 @@ impl Session {
         answers: &mut Vec<Answer>,
     ) -> Result<(), Stop>
         requires at { CallsRegistry registry.now self.old.registry }
-        requires stands { ReferencesMatch self.old.script_state.lives (known self.old.registry) }
-        requires posted { PipelinesMatch self.old.script_state (known self.old.board) }
+        requires state { StateMatches self.old }
         ensures { MatchResult result
             (λ _. Performs (unregister self.old.script_state number driver.now) self.old self.new answers.old.items answers.new.items)
             (λ _. StopsIn (unregister self.old.script_state number driver.now) self.old self.new) }
@@ -78,8 +76,7 @@ impl Session {
         answers: &mut Vec<Answer>,
     ) -> Result<(), Stop>
         requires at { CallsRegistry registry.now self.old.registry }
-        requires stands { ReferencesMatch self.old.script_state.lives (known self.old.registry) }
-        requires posted { PipelinesMatch self.old.script_state (known self.old.board) }
+        requires state { StateMatches self.old }
         ensures { MatchResult result
             (λ _. Performs (refs self.old.script_state number driver.now) self.old self.new answers.old.items answers.new.items)
             (λ _. StopsIn (refs self.old.script_state number driver.now) self.old self.new) }
@@ -97,8 +94,7 @@ impl Session {
         answers: &mut Vec<Answer>,
     ) -> Result<(), Stop>
         requires at { CallsRegistry registry.now self.old.registry }
-        requires stands { ReferencesMatch self.old.script_state.lives (known self.old.registry) }
-        requires posted { PipelinesMatch self.old.script_state (known self.old.board) }
+        requires state { StateMatches self.old }
         ensures { MatchResult result
             (λ _. Performs (listed self.old.script_state number) self.old self.new answers.old.items answers.new.items)
             (λ _. StopsIn (listed self.old.script_state number) self.old self.new) }

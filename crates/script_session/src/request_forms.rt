@@ -4,7 +4,7 @@ ghost use Rattle.std.specs.Prelude.{◌≡◌, ◌+◌, ◌<◌, ◌≤◌, ◌^
 ghost use Rattle.std_defs.specs.Aes.{IsKeyLength, seal};
 ghost use Rattle.dialogues.specs.RequestCommands.{aes_said, request_of, aes, request};
 ghost use Rattle.recorded_calls.specs.Passes.{known, CallsBoard};
-ghost use Rattle.script_session.specs.States.{ReferencesMatch, PipelinesMatch, AreShared, counted};
+ghost use Rattle.script_session.specs.States.{StateMatches, AreShared, counted};
 ghost use Rattle.script_session.specs.PerformedDialogue.{Performs, StopsIn};
 
 use crate::answers::{answer_errno, say};
@@ -69,8 +69,7 @@ impl Session {
         block: &Bytes,
         answers: &mut Vec<Answer>,
     ) -> Result<(), Stop>
-        requires stands { ReferencesMatch self.old.script_state.lives (known self.old.registry) }
-        requires posted { PipelinesMatch self.old.script_state (known self.old.board) }
+        requires state { StateMatches self.old }
         ensures { MatchResult result
             (λ _. Performs (aes self.old.script_state number key.now block.now) self.old self.new answers.old.items answers.new.items)
             (λ _. StopsIn (aes self.old.script_state number key.now block.now) self.old self.new) }
@@ -102,8 +101,7 @@ impl Session {
         answers: &mut Vec<Answer>,
     ) -> Result<(), Stop>
         requires at { CallsBoard board.now self.old.board }
-        requires stands { ReferencesMatch self.old.script_state.lives (known self.old.registry) }
-        requires posted { PipelinesMatch self.old.script_state (known self.old.board) }
+        requires state { StateMatches self.old }
         requires shared { AreShared self.old.script_state.shared (known self.old.board) }
         requires aad { length asked.aad < 2 ^ 32 }
         requires text { length asked.text.text < 2 ^ 32 }

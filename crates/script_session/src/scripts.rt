@@ -8,7 +8,7 @@ ghost use Rattle.dialogues.specs.Lines.{command_dialogue, line_dialogue};
 ghost use Rattle.dialogues.specs.Widths.{command_width, width_of};
 ghost use Rattle.script_session.specs.Replies.{IsReady, Replies};
 ghost use Rattle.recorded_calls.specs.Passes.{CallsRegistry, known, CallsBoard};
-ghost use Rattle.script_session.specs.States.{ReferencesMatch, PipelinesMatch, PadsHaveAListPerWorker, AreShared};
+ghost use Rattle.script_session.specs.States.{StateMatches, PadsHaveAListPerWorker, AreShared};
 ghost use Rattle.script_session.specs.PerformedDialogue.{PerformsBy, StopsIn};
 ghost use Rattle.script_session.specs.ReplyText.{SaysBy, hands_out};
 ghost use Rattle.recorded_calls.specs.Pipelines.{Called};
@@ -115,8 +115,7 @@ impl Session {
     ) -> Result<(), Stop>
         requires at_registry { CallsRegistry registry.now self.old.registry }
         requires at_board { CallsBoard board.now self.old.board }
-        requires stands { ReferencesMatch self.old.script_state.lives (known self.old.registry) }
-        requires posted { PipelinesMatch self.old.script_state (known self.old.board) }
+        requires state { StateMatches self.old }
         requires few { self.old.workers ≤ 16 }
         requires wide { PadsHaveAListPerWorker self.old }
         requires shared { AreShared self.old.script_state.shared (known self.old.board) }

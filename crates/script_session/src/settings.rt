@@ -13,7 +13,7 @@ ghost use Rattle.recorded_calls.specs.Pipelines.{KnowsPipe, Unchanged, IsQueue, 
 ghost use Rattle.script_session.specs.TransformChanges.{PerformsFor, StopsFor};
 ghost use Rattle.script_session.specs.PerformedDialogue.{Performs, StopsIn};
 ghost use Rattle.script_session.specs.Settings.{sets, holds_or_goes, hold_call};
-ghost use Rattle.script_session.specs.States.{HasPipe, MadeWide, PadsHaveAListPerWorker, ReferencesMatch, PipelinesMatch};
+ghost use Rattle.script_session.specs.States.{HasPipe, MadeWide, PadsHaveAListPerWorker, StateMatches};
 
 use crate::answers::{answer_errno, say};
 use crate::pipeline_requests::lists_beside_workers;
@@ -224,8 +224,7 @@ impl Session {
         answers: &mut Vec<Answer>,
     ) -> Result<(), Stop>
         requires at { CallsBoard board.now self.old.board }
-        requires stands { ReferencesMatch self.old.script_state.lives (known self.old.registry) }
-        requires posted { PipelinesMatch self.old.script_state (known self.old.board) }
+        requires state { StateMatches self.old }
         requires few { self.old.workers ≤ 16 }
         requires wide { PadsHaveAListPerWorker self.old }
         ensures { MatchResult result

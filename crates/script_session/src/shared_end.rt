@@ -2,15 +2,13 @@
 
 ghost use Rattle.std.specs.Prelude.{◌≡◌, [], false, MatchResult};
 ghost use Rattle.board.specs.Alone.{PeersGone};
-ghost use Rattle.board.specs.Legal.{LegalBoard, is_shut};
+ghost use Rattle.board.specs.Legal.{LegalBoard};
 ghost use Rattle.turn_lock.specs.Passes.{knows};
 ghost use Rattle.dialogues.specs.PipelineCommands.{lets_go, let_all_go, drains_at_end, drain_all};
-ghost use Rattle.dialogues.specs.ScriptState.{PipelineState as KnownPipe};
 ghost use Rattle.shared_board.specs.Passes.{IsPassOn};
 ghost use Rattle.recorded_calls.specs.Passes.{known, lock_of, CallsBoard};
-ghost use Rattle.recorded_calls.specs.Pipelines.{IsShut};
-ghost use Rattle.recorded_calls.specs.SharedCalls.{KnowsGathered};
-ghost use Rattle.script_session.specs.SharedEnd.{IsJoined, EndsFirst, StopsFirst, SeesBeside, HasFreed, HasDelivered, MovesLent, MovesAllLent, EndsLent, AreToMove};
+ghost use Rattle.recorded_calls.specs.SharedCalls.{HaveEnded};
+ghost use Rattle.script_session.specs.SharedEnd.{IsJoined, EndsFirst, StopsFirst, SeesBeside, HasFreed, HasDelivered, MovesLent, MovesAllLent, EndsLent, AreToMove, MayShut, ShutsBeside, MeetsBeside};
 ghost use Rattle.script_session.specs.PerformedDialogue.{HasSeenMore};
 ghost use Rattle.script_session.specs.Loans.{HasLent};
 
@@ -173,19 +171,28 @@ fn end_shared<R: Wait, G: Gate>(
     Ok(())
 }
 
-// Shuts the board, beside workers alone. No memory is taken.
-fn shut_beside<R: Wait>(rt: &R, board: &SharedBoard<Job>, pass: BoardPass<Job>) -> BoardPass<Job>
-    requires lock { IsPassOn board.now pass }
-    requires gone { PeersGone (knows pass) }
-    requires once { is_shut (knows pass).seen ≡ false }
+// Shuts the board where the end was held up to that. Otherwise it takes a turn, at which the caller has seen all that it
+// did. No memory is taken.
+fn leave_board<R: Wait>(
+    rt: &R,
+    board: &SharedBoard<Job>,
+    caller: BoardCaller,
+    held: &Result<(), Stop>,
+) -> BoardPass<Job>
+    requires at { CallsBoard board.now caller }
+    requires may { MatchResult held.now (λ _. MayShut (known caller)) (λ _. HaveEnded (known caller)) }
     ensures lock { IsPassOn board.now result }
-    ensures shut { IsShut (knows pass) (knows result) }
-    ensures ended { (knows result).ended ≡ (knows pass).ended }
-    ensures gone { PeersGone (knows result) }
-    ensures gathered { (pipe : KnownPipe) → KnowsGathered (knows pass) pipe → KnowsGathered (knows result) pipe }
+    ensures left { MatchResult held.now (λ _. ShutsBeside (known caller) (knows result)) (λ _. MeetsBeside (known caller) (knows result)) }
 {
     sharing_laws();
-    board.shut(rt, pass)
+    let pass = caller.into_pass();
+    match held {
+        Ok(()) => board.shut(rt, pass),
+        Err(_) => {
+            let (pass, _) = board.is_shut(rt, pass);
+            pass
+        }
+    }
 }
 
 /// Answers the end of input of the first script, when all have ended that were split off its pass and share its
@@ -216,11 +223,6 @@ pub fn end_first<R: Wait, G: Gate>(
     let mut caller = BoardCaller::new(pass);
     caller.meet(rt, board);
     let lives = shared.transforms.as_slice();
-    match end_shared(rt, alloc, board, gate, &mut caller, lives, reply) {
-        Ok(()) => (shut_beside(rt, board, caller.into_pass()), Ok(())),
-        Err(stop) => {
-            caller.meet(rt, board);
-            (caller.into_pass(), Err(stop))
-        }
-    }
+    let held = end_shared(rt, alloc, board, gate, &mut caller, lives, reply);
+    (leave_board(rt, board, caller, &held), held)
 }

@@ -15,7 +15,7 @@ ghost use Rattle.recorded_calls.specs.SharedCalls.{KnowsShared};
 ghost use Rattle.script_session.specs.TransformChanges.{asks_if};
 ghost use Rattle.script_session.specs.PerformedDialogue.{Performs, StopsIn};
 ghost use Rattle.script_session.specs.SharedTransforms.{GivesFor, StopsGiving, OffersShared};
-ghost use Rattle.script_session.specs.States.{ReferencesMatch, PipelinesMatch, HasShared, AreShared};
+ghost use Rattle.script_session.specs.States.{StateMatches, HasShared, AreShared};
 
 use crate::answers::{answer_errno, say, value_answer};
 use crate::scripts::Session;
@@ -128,8 +128,7 @@ impl Session {
         answers: &mut Vec<Answer>,
     ) -> Result<(), Stop>
         requires at { CallsBoard board.now self.old.board }
-        requires stands { ReferencesMatch self.old.script_state.lives (known self.old.registry) }
-        requires posted { PipelinesMatch self.old.script_state (known self.old.board) }
+        requires state { StateMatches self.old }
         requires shared { AreShared self.old.script_state.shared (known self.old.board) }
         requires none { live_of self.old.script_state label.now ≡ None }
         requires aad { length asked.aad < 2 ^ 32 }

@@ -1,4 +1,5 @@
 pub mod Wrappers
+pub mod WordKinds
 pub mod Words
 pub mod TableLaws
 pub mod Growth

@@ -1,6 +1,7 @@
 //! The words that name templates.
-ghost use Rattle.std.specs.Prelude.{◌≡◌};
+ghost use Rattle.std.specs.Prelude.{◌≡◌, None};
 ghost use Rattle.templates.specs.Table.{template_named, template_at};
+ghost use Rattle.templates.specs.WordKinds.{named_in, skciphers, aeads, macs_and_wrappers};
 
 use alg_names::Name;
 
@@ -23,10 +24,9 @@ pub enum Template {
     CryptdPcrypt,
 }
 
-/// The template of a word.
-#[tactic(auto, unfolding(crate::specs::Table::template_named))]
-pub(crate) fn template_of(word: &[u8]) -> Option<Template>
-    ensures { result ≡ template_named word.now }
+/// The template of a word of a mode that encrypts alone.
+fn skcipher_of(word: &[u8]) -> Option<Template>
+    ensures { result ≡ named_in word.now skciphers None }
 {
     if word == b"cbc".as_slice() {
         Some(Template::Cbc)
@@ -36,7 +36,16 @@ pub(crate) fn template_of(word: &[u8]) -> Option<Template>
         Some(Template::Rfc3686)
     } else if word == b"xts".as_slice() {
         Some(Template::Xts)
-    } else if word == b"gcm".as_slice() {
+    } else {
+        None
+    }
+}
+
+/// The template of a word of a mode that encrypts and authenticates.
+fn aead_of(word: &[u8]) -> Option<Template>
+    ensures { result ≡ named_in word.now aeads None }
+{
+    if word == b"gcm".as_slice() {
         Some(Template::Gcm)
     } else if word == b"gcm_base".as_slice() {
         Some(Template::GcmBase)
@@ -44,7 +53,16 @@ pub(crate) fn template_of(word: &[u8]) -> Option<Template>
         Some(Template::Rfc4106)
     } else if word == b"ccm".as_slice() {
         Some(Template::Ccm)
-    } else if word == b"hmac".as_slice() {
+    } else {
+        None
+    }
+}
+
+/// The template of the word of a MAC, of `authenc` or of a wrapper.
+fn mac_or_wrapper_of(word: &[u8]) -> Option<Template>
+    ensures { result ≡ named_in word.now macs_and_wrappers None }
+{
+    if word == b"hmac".as_slice() {
         Some(Template::Hmac)
     } else if word == b"cmac".as_slice() {
         Some(Template::Cmac)
@@ -57,6 +75,20 @@ pub(crate) fn template_of(word: &[u8]) -> Option<Template>
     } else {
         None
     }
+}
+
+/// The template of a word.
+#[tactic(auto, using(crate::proofs::WordKinds::found_other))]
+pub(crate) fn template_of(word: &[u8]) -> Option<Template>
+    ensures { result ≡ template_named word.now }
+{
+    if let Some(template) = skcipher_of(word) {
+        return Some(template);
+    }
+    if let Some(template) = aead_of(word) {
+        return Some(template);
+    }
+    mac_or_wrapper_of(word)
 }
 
 /// The template of a name.

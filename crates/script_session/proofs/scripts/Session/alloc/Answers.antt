@@ -15,8 +15,8 @@ returns-then-has_label g c =
     or-breaks _ _ c.answer_errno.result c.answer_errno.ensures
     (λ all. answer-holds _ s s _ _ all
     (alloc-live s.workers s.script_state c.args.number c.args.wanted.now.label.now c.args.name.now c.args.wanted.now.length
-    (ap (λ l. is_some (either_of s.script_state l)) (sym c.as_slice.ensures) ∙ (sym c.has_label.ensures ∙ c.if-has_label.true))) refl refl refl refl c.requires.stands c.requires.posted)
-    c.requires.posted
+    (ap (λ l. is_some (either_of s.script_state l)) (sym c.as_slice.ensures) ∙ (sym c.has_label.ensures ∙ c.if-has_label.true))) refl refl refl refl c.requires.state.stands c.requires.state.posted)
+    c.requires.state.posted
 
 pub returns-then-len-ge-MOST_LIVE : goal.returns-then-len-ge-MOST_LIVE
 returns-then-len-ge-MOST_LIVE g c =
@@ -25,8 +25,8 @@ returns-then-len-ge-MOST_LIVE g c =
     (λ all. answer-holds _ s s _ _ all
     (alloc-full s.workers s.script_state c.args.number c.args.wanted.now.label.now c.args.name.now c.args.wanted.now.length
     (ap (λ l. is_some (either_of s.script_state l)) (sym c.as_slice.ensures) ∙ (sym c.has_label.ensures ∙ c.if-has_label.false))
-    (let view = ap (λ (x : State). length x.script_state.lives) c.self.view_is in omega (arith, view, c.if-len-ge-MOST_LIVE.true, c.len.ensures))) refl refl refl refl c.requires.stands c.requires.posted)
-    c.requires.posted
+    (let view = ap (λ (x : State). length x.script_state.lives) c.self.view_is in omega (arith, view, c.if-len-ge-MOST_LIVE.true, c.len.ensures))) refl refl refl refl c.requires.state.stands c.requires.state.posted)
+    c.requires.state.posted
 
 pub returns-in-Err-Fault : goal.returns-in-Err-Fault
 returns-in-Err-Fault g c =
@@ -37,8 +37,8 @@ returns-in-Err-Fault g c =
     (alloc-faulty s.workers s.script_state c.args.number c.args.wanted.now.label.now c.args.name.now c.args.wanted.now.length c.in-Err-Fault.errno
     (ap (λ l. is_some (either_of s.script_state l)) (sym c.as_slice.ensures) ∙ (sym c.has_label.ensures ∙ c.if-has_label.false))
     (let view = ap (λ (x : State). length x.script_state.lives) c.self.view_is in omega (arith, view, c.if-len-ge-MOST_LIVE.false, c.len.ensures))
-    (ap name_read (sym c.as_slice-2.ensures) ∙ read.err)) refl refl refl refl c.requires.stands c.requires.posted)
-    c.requires.posted
+    (ap name_read (sym c.as_slice-2.ensures) ∙ read.err)) refl refl refl refl c.requires.state.stands c.requires.state.posted)
+    c.requires.state.posted
 
 pub returns-then-not-fits_queue : goal.returns-then-not-fits_queue
 returns-then-not-fits_queue g c =
@@ -48,8 +48,8 @@ returns-then-not-fits_queue g c =
     (alloc-unfit s.workers s.script_state c.args.number c.args.wanted.now.label.now c.args.name.now c.args.wanted.now.length c.in-Ok.name
     (ap (λ l. is_some (either_of s.script_state l)) (sym c.as_slice.ensures) ∙ (sym c.has_label.ensures ∙ c.if-has_label.false))
     (let view = ap (λ (x : State). length x.script_state.lives) c.self.view_is in omega (arith, view, c.if-len-ge-MOST_LIVE.false, c.len.ensures))
-    (ap name_read (sym c.as_slice-2.ensures) ∙ c.in-Ok.ensures.ok) (sym c.fits_queue.ensures ∙ c.if-not-fits_queue.true)) refl refl refl refl c.requires.stands c.requires.posted)
-    c.requires.posted
+    (ap name_read (sym c.as_slice-2.ensures) ∙ c.in-Ok.ensures.ok) (sym c.fits_queue.ensures ∙ c.if-not-fits_queue.true)) refl refl refl refl c.requires.state.stands c.requires.state.posted)
+    c.requires.state.posted
 
 pub find-requires-clause-free : goal.find-requires-clause-free
 find-requires-clause-free g c =
@@ -66,4 +66,4 @@ returns g c =
     (ap name_read (sym c.as_slice-2.ensures) ∙ c.in-Ok.ensures.ok) (sym c.fits_queue.ensures ∙ c.if-not-fits_queue.false) (c.in-Ok.ensures.spelled ∙ c.as_slice-2.ensures) c.find.ensures
 
 pub returns-in-Err-Memory : goal.returns-in-Err-Memory
-returns-in-Err-Memory g c = stops-none _ c.args.self.now c.requires.stands
+returns-in-Err-Memory g c = stops-none _ c.args.self.now c.requires.state.stands

@@ -13,8 +13,8 @@ returns-in_default g c =
     let s = c.args.self.now in
     let none = ap (λ l. either_of s.script_state l) (sym c.as_slice.ensures) ∙ sym c.in_default.ensures in
     or-stops c.answer_errno.result c.answer_errno.ensures
-    (answer-holds _ s s _ _ _ (ap (λ o. for_live s.script_state c.args.number o ENOENT (λ (live : Live). says s.script_state (bulk_said c.args.number live c.args.size c.args.seed))) none) refl refl refl refl c.requires.stands c.requires.posted)
-    (stops-none _ s c.requires.stands)
+    (answer-holds _ s s _ _ _ (ap (λ o. for_live s.script_state c.args.number o ENOENT (λ (live : Live). says s.script_state (bulk_said c.args.number live c.args.size c.args.seed))) none) refl refl refl refl c.requires.state.stands c.requires.state.posted)
+    (stops-none _ s c.requires.state.stands)
 
 pub returns : goal.returns
 returns g c =
@@ -23,8 +23,8 @@ returns g c =
     or-stops c.say.result c.say.ensures
     (answer-holds _ s s _ _ _
     (ap (λ o. for_live s.script_state c.args.number o ENOENT (λ (live : Live). says s.script_state (bulk_said c.args.number live c.args.size c.args.seed))) found ∙ ap (says s.script_state) (sym c.in_ok-answer.ensures))
-    refl refl refl refl c.requires.stands c.requires.posted)
-    (stops-none _ s c.requires.stands)
+    refl refl refl refl c.requires.state.stands c.requires.state.posted)
+    (stops-none _ s c.requires.state.stands)
 
 pub returns-in_err-answer : goal.returns-in_err-answer
-returns-in_err-answer g c = fails c.from_residual.result _ c.from_residual.ensures.0 (stops-none _ c.args.self.now c.requires.stands)
+returns-in_err-answer g c = fails c.from_residual.result _ c.from_residual.ensures.0 (stops-none _ c.args.self.now c.requires.state.stands)

@@ -6,8 +6,11 @@ use Rattle.dialogues.specs.Dialogues.{Ends}
 use Rattle.dialogues.specs.PipelineCommands.{end_beside}
 use Rattle.recorded_calls.specs.Passes.{known}
 use Rattle.transforms.specs.AskValue.{ask_size}
+use Rattle.script_session.specs.ReplyText.{SaysTold}
 use Rattle.script_session.specs.States.{State, PipelinesMatch}
 use Rattle.script_session.proofs.Ended.{client-arm, ends-paid, stops-here, release-stops, drain-stops}
+use Rattle.script_session.proofs.Said.{on-err, tells-nothing, told-first, told-after}
+use Rattle.script_session.proofs.Rules.{called-nothing}
 use Rattle.script_session.proofs.Moving.{fails}
 use Rattle.script_session.proofs.scripts.Session.end_client.Goals as goal
 
@@ -57,3 +60,23 @@ returns-in_err-drain_last_said_all-clause-done g c =
     (c.deref_mut.ensures.value ∙ c.in_ok-lives.ensures.all)
     (c.deref_mut-2.ensures.value ∙ with_items_is c.in_ok-lives.lives c.release_all.new.lives (omega (arith, c.release_all.auto.lives, c.deref_mut.ensures.len, ap length c.deref_mut.ensures.value)))
     (c.drain_last_said_all.ensures.lock ∙ c.release_all.ensures.lock) c.requires.stands c.requires.posted c.in_ok-release_all.ensures.moved c.in_err-drain_last_said_all.ensures.moved).stops)
+
+-- what the reply has then
+pub returns-in_err-lives-clause-told : goal.returns-in_err-lives-clause-told
+returns-in_err-lives-clause-told g c =
+    on-err c.from_residual.result
+    (subst (λ (x : State). SaysTold (known x.board) (known c.self.inside.board) c.args.reply.now.text c.args.reply.now.text) c.self.view_is
+    (told-first (known c.self.inside.board) (known c.self.inside.board) c.args.reply.now.text
+    (tells-nothing (known c.self.inside.board) (known c.self.inside.board) (called-nothing (known c.self.inside.board)))))
+
+pub returns-in_err-release_all-clause-told : goal.returns-in_err-release_all-clause-told
+returns-in_err-release_all-clause-told g c =
+    on-err c.from_residual-in_err-release_all.result
+    (subst (λ (x : State). SaysTold (known x.board) (known c.release_all.new.caller) c.args.reply.now.text c.args.reply.now.text) c.self.view_is
+    (told-first (known c.self.inside.board) (known c.release_all.new.caller) c.args.reply.now.text c.release_all.ensures.told))
+
+pub returns-in_err-drain_last_said_all-clause-told : goal.returns-in_err-drain_last_said_all-clause-told
+returns-in_err-drain_last_said_all-clause-told g c =
+    on-err c.from_residual-in_err-drain_last_said_all.result
+    (subst (λ (x : State). SaysTold (known x.board) (known c.drain_last_said_all.new.caller) c.args.reply.now.text c.drain_last_said_all.new.reply.text) c.self.view_is
+    (told-after (known c.self.inside.board) (known c.release_all.new.caller) (known c.drain_last_said_all.new.caller) c.args.reply.now.text c.drain_last_said_all.new.reply.text c.release_all.ensures.told c.drain_last_said_all.ensures.told))

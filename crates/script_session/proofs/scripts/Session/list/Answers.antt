@@ -9,9 +9,9 @@ use Rattle.script_session.proofs.scripts.Session.list.Goals as goal
 pub returns : goal.returns
 returns g c =
     or-breaks _ _ c.list_rows.result c.list_rows.ensures
-    (λ all told. listing-arm c.args.self.now c.self.view_is _ c.in_ok-listing.listing (λ rows. map (row_said c.args.number) rows ++ said.Listed c.args.number (length rows) ∷ []) _ all refl c.requires.stands c.requires.posted c.in_ok-listing.ensures
+    (λ all told. listing-arm c.args.self.now c.self.view_is _ c.in_ok-listing.listing (λ rows. map (row_said c.args.number) rows ++ said.Listed c.args.number (length rows) ∷ []) _ all refl c.requires.state.stands c.requires.state.posted c.in_ok-listing.ensures
     (told ∙ ap (λ rows. c.args.answers.now.items ++ (map (row_said c.args.number) rows ++ said.Listed c.args.number (length rows) ∷ [])) c.rows.ensures))
-    c.requires.posted
+    c.requires.state.posted
 
 pub returns-in_err-listing : goal.returns-in_err-listing
 returns-in_err-listing g c = fails c.from_residual.result _ c.from_residual.ensures.0 (unasked-arm c.args.self.now c.self.view_is _ c.in_err-listing.ensures)

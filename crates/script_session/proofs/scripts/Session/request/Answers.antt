@@ -34,8 +34,8 @@ returns-in-Ok-None g c =
     (answer-holds _ s s _ _ _
     (ap (λ o. for_live s.script_state c.args.number o ENOENT (λ (live : Live). requests_under s.script_state c.args.number live c.args.asked c.args.backlog live.key)) (either-at s c.self.inside.lives c.self.invariant c.self.view_is c.args.label.now c.as_slice.result.now c.as_slice.ensures c.in-Some.place c.in-Some.ensures)
     ∙ no-key s.script_state c.args.number at.live c.args.asked c.args.backlog (sym (ap (λ (l : Live). l.key) was) ∙ why))
-    refl refl refl refl c.requires.stands c.requires.posted)
-    (stops-none _ s c.requires.stands)
+    refl refl refl refl c.requires.state.stands c.requires.state.posted)
+    (stops-none _ s c.requires.state.stands)
 
 pub returns-in-Err-Inval : goal.returns-in-Err-Inval
 returns-in-Err-Inval g c =
@@ -47,8 +47,8 @@ returns-in-Err-Inval g c =
     (answer-holds _ s s _ _ _
     (ap (λ o. for_live s.script_state c.args.number o ENOENT (λ (live : Live). requests_under s.script_state c.args.number live c.args.asked c.args.backlog live.key)) (either-at s c.self.inside.lives c.self.invariant c.self.view_is c.args.label.now c.as_slice.result.now c.as_slice.ensures c.in-Some.place c.in-Some.ensures)
     ∙ not-taken s.script_state c.args.number at.live c.args.asked c.args.backlog at.live.key (subst (λ (l : Live). IsNotTaken l c.args.asked l.key) was why))
-    refl refl refl refl c.requires.stands c.requires.posted)
-    (stops-none _ s c.requires.stands)
+    refl refl refl refl c.requires.state.stands c.requires.state.posted)
+    (stops-none _ s c.requires.state.stands)
 
 pub unwrap-live-requires : goal.unwrap-live-requires
 unwrap-live-requires g c = loan-there c.args.self.now c.self.inside.lives c.self.invariant c.self.view_is c.args.label.now c.as_slice.result.now c.as_slice.ensures c.in-Some.place c.in-Some.ensures c.get_mut.result c.get_mut.ensures.value
@@ -69,7 +69,7 @@ invariant_of-self-2 g c =
 pub take_job-requires-clause-pipe : goal.take_job-requires-clause-pipe
 take_job-requires-clause-pipe g c =
     let is = loan_here (get nat_cmp c.self.inside.lives.transforms c.in-Some.place) c.get_mut.result c.unwrap-live.result c.get_mut.ensures.value c.unwrap-live.ensures in
-    pipe-there c.args.self.now c.self.inside.lives c.self.invariant c.self.view_is c.args.label.now c.as_slice.result.now c.as_slice.ensures c.in-Some.place c.in-Some.ensures c.unwrap-live.result.now is c.requires.posted
+    pipe-there c.args.self.now c.self.inside.lives c.self.invariant c.self.view_is c.args.label.now c.as_slice.result.now c.as_slice.ensures c.in-Some.place c.in-Some.ensures c.unwrap-live.result.now is c.requires.state.posted
 
 pub take_job-requires-clause-line : goal.take_job-requires-clause-line
 take_job-requires-clause-line g c =
@@ -89,10 +89,10 @@ returns g c =
     request-arm c.args.self.now c.self.inside.lives c.self.invariant c.self.view_is c.args.label.now c.as_slice.result.now c.as_slice.ensures c.args.number c.in-Some.place c.in-Some.ensures old c.take_job.new.live _
     (λ script_state live. requests_under script_state c.args.number live c.args.asked c.args.backlog live.key) (λ script_state. requests_in script_state c.args.number old (asked_by ask) c.args.backlog old.pipe) c.count.new.self c.take_job.new.caller c.in_ok-accepted.accepted c.size-size.result ask _ _
     (job-asks s.script_state c.args.number c.self.inside.client old c.args.asked (asked_by ask) c.args.backlog old.key (ap (λ (x : State). x.script_state.client) (sym c.self.view_is)) job)
-    is (written c.args.self.now c.self.inside.lives c.self.invariant c.self.view_is c.args.label.now c.as_slice.result.now c.as_slice.ensures c.in-Some.place c.in-Some.ensures c.unwrap-live.result.now c.take_job.new.live _ is c.take_job.ensures.named (c.get_mut.follows.holds c.take_job.new.live).0) e.lock c.requires.stands c.requires.posted c.size-size.ensures e.held c.count.ensures
+    is (written c.args.self.now c.self.inside.lives c.self.invariant c.self.view_is c.args.label.now c.as_slice.result.now c.as_slice.ensures c.in-Some.place c.in-Some.ensures c.unwrap-live.result.now c.take_job.new.live _ is c.take_job.ensures.named (c.get_mut.follows.holds c.take_job.new.live).0) e.lock c.requires.state.stands c.requires.state.posted c.size-size.ensures e.held c.count.ensures
 
 pub returns-in-Err-Memory : goal.returns-in-Err-Memory
-returns-in-Err-Memory g c = stops-none _ c.args.self.now c.requires.stands
+returns-in-Err-Memory g c = stops-none _ c.args.self.now c.requires.state.stands
 
 pub returns-in_err-accepted : goal.returns-in_err-accepted
 returns-in_err-accepted g c =
@@ -107,4 +107,4 @@ returns-in_err-accepted g c =
     (request-stops s c.self.inside.lives c.self.invariant c.self.view_is c.args.label.now c.as_slice.result.now c.as_slice.ensures c.args.number c.in-Some.place c.in-Some.ensures old _
     (λ script_state live. requests_under script_state c.args.number live c.args.asked c.args.backlog live.key) (λ script_state. requests_in script_state c.args.number old (asked_by ask) c.args.backlog old.pipe) c.take_job.new.caller
     (job-asks s.script_state c.args.number c.self.inside.client old c.args.asked (asked_by ask) c.args.backlog old.key (ap (λ (x : State). x.script_state.client) (sym c.self.view_is)) job)
-    is c.take_job.ensures.lock c.requires.stands c.requires.posted c.in_err-accepted.ensures.held)
+    is c.take_job.ensures.lock c.requires.state.stands c.requires.state.posted c.in_err-accepted.ensures.held)

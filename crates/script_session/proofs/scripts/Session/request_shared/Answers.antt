@@ -18,8 +18,8 @@ returns-in_default g c =
     let s = c.args.self.now in
     let none = either-shared s.script_state c.args.label.now None c.requires.none (shared-at s c.self.view_is c.args.label.now c.as_slice.result.now c.as_slice.ensures None c.in_default.ensures) in
     or-stops c.answer_errno.result c.answer_errno.ensures
-    (answer-holds _ s s _ _ _ (ap (λ o. for_live s.script_state c.args.number o ENOENT (λ (live : Live). requests_under s.script_state c.args.number live c.args.asked c.args.backlog live.key)) none) refl refl refl refl c.requires.stands c.requires.posted)
-    (stops-none _ s c.requires.stands)
+    (answer-holds _ s s _ _ _ (ap (λ o. for_live s.script_state c.args.number o ENOENT (λ (live : Live). requests_under s.script_state c.args.number live c.args.asked c.args.backlog live.key)) none) refl refl refl refl c.requires.state.stands c.requires.state.posted)
+    (stops-none _ s c.requires.state.stands)
 
 pub returns-in-Ok-None : goal.returns-in-Ok-None
 returns-in-Ok-None g c =
@@ -30,8 +30,8 @@ returns-in-Ok-None g c =
     or-stops c.answer_errno-in-Ok-None.result c.answer_errno-in-Ok-None.ensures
     (answer-holds _ s s _ _ _
     (ap (λ o. for_live s.script_state c.args.number o ENOENT (λ (live : Live). requests_under s.script_state c.args.number live c.args.asked c.args.backlog live.key)) found ∙ no-key s.script_state c.args.number live c.args.asked c.args.backlog why)
-    refl refl refl refl c.requires.stands c.requires.posted)
-    (stops-none _ s c.requires.stands)
+    refl refl refl refl c.requires.state.stands c.requires.state.posted)
+    (stops-none _ s c.requires.state.stands)
 
 pub returns-in-Err-Inval : goal.returns-in-Err-Inval
 returns-in-Err-Inval g c =
@@ -42,8 +42,8 @@ returns-in-Err-Inval g c =
     or-stops c.answer_errno-in-Err-Inval.result c.answer_errno-in-Err-Inval.ensures
     (answer-holds _ s s _ _ _
     (ap (λ o. for_live s.script_state c.args.number o ENOENT (λ (live : Live). requests_under s.script_state c.args.number live c.args.asked c.args.backlog live.key)) found ∙ not-taken s.script_state c.args.number live c.args.asked c.args.backlog live.key why)
-    refl refl refl refl c.requires.stands c.requires.posted)
-    (stops-none _ s c.requires.stands)
+    refl refl refl refl c.requires.state.stands c.requires.state.posted)
+    (stops-none _ s c.requires.state.stands)
 
 pub give_job-requires-clause-pipe : goal.give_job-requires-clause-pipe
 give_job-requires-clause-pipe g c =
@@ -59,7 +59,7 @@ returns-in_err-accepted g c =
     gives-stops s c.self.view_is c.args.label.now c.as_slice.result.now c.as_slice.ensures c.args.number live
     (λ script_state live. requests_under script_state c.args.number live c.args.asked c.args.backlog live.key) (λ script_state. requests_in script_state c.args.number live (asked_by ask) c.args.backlog live.pipe) c.give_job.new.caller c.in-Some.ensures c.requires.none
     (job-asks s.script_state c.args.number c.self.inside.client live c.args.asked (asked_by ask) c.args.backlog live.key (ap (λ (x : State). x.script_state.client) (sym c.self.view_is)) job)
-    c.give_job.ensures.lock c.requires.stands c.requires.posted c.in_err-accepted.ensures.held)
+    c.give_job.ensures.lock c.requires.state.stands c.requires.state.posted c.in_err-accepted.ensures.held)
 
 pub returns : goal.returns
 returns g c =
@@ -72,7 +72,7 @@ returns g c =
     (λ script_state live. requests_under script_state c.args.number live c.args.asked c.args.backlog live.key) (λ script_state. requests_in script_state c.args.number live (asked_by ask) c.args.backlog live.pipe) c.count.new.self c.give_job.new.caller c.in_ok-accepted.accepted c.size-size.result ask _ _
     c.in-Some.ensures c.requires.none
     (job-asks s.script_state c.args.number c.self.inside.client live c.args.asked (asked_by ask) c.args.backlog live.key (ap (λ (x : State). x.script_state.client) (sym c.self.view_is)) job)
-    e.lock c.requires.stands c.requires.posted c.size-size.ensures e.held c.count.ensures
+    e.lock c.requires.state.stands c.requires.state.posted c.size-size.ensures e.held c.count.ensures
 
 pub returns-in-Err-Memory : goal.returns-in-Err-Memory
-returns-in-Err-Memory g c = stops-none _ c.args.self.now c.requires.stands
+returns-in-Err-Memory g c = stops-none _ c.args.self.now c.requires.state.stands
