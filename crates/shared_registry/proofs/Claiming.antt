@@ -185,21 +185,32 @@ ends_answer l m (answer.Joined id below) q = ap outcome_of q
 ends_answer l m (answer.Failed errno) q = ap outcome_of q
 ends_answer l m answer.NoMemory q = tt
 
+no_memory : (a : EndAnswer) → result_of a ≡ Err Memory → end_of a ≡ ended.NoMemory
+no_memory (answer.Built id spec) q = absurd (let f : Ok id ≡ Err Memory = q in cc)
+no_memory (answer.Joined id below) q = absurd (let f : Ok id ≡ Err Memory = q in cc)
+no_memory (answer.Failed errno) q = absurd (let f : Err (Fault errno) ≡ Err Memory = q in cc)
+no_memory answer.NoMemory q = refl
+
 -- an end of a larval that the pass was building
 module _ (k l : Known RegEntry) (m : ℕ) (r : Result ℕ BuildErr) (did : EndsAs k l m r) where
   pub end_goes : Goes k l (End k.number m did.2.0 ∷ [])
   end_goes = goes_after k l did.0 (End k.number m did.2.0) refl did.1 did.2.1
 
-  pub end_comes : RegistryLaws → IsOpen k m → Ends l m r
-  end_comes laws is =
+  ended_now : RegistryLaws → IsOpen k m → ended_as l.seen m ≡ Some (end_of did.2.0)
+  ended_now laws is =
       let e : RegEntry = End k.number m did.2.0 in
       let grown : l.seen ≡ did.0 ++ e ∷ [] = ap (λ n. n.seen) did.2.1.0 in
       let legal : LegalReg did.0 = did.1.kept.legal in
       let open_there = open_at laws k did.0 did.1.shows legal m is in
-      let now : ended_as l.seen m ≡ Some (end_of did.2.0) =
       ap (λ x. ended_as x m) grown ∙ (ended-push did.0 e m (claimed-there did.0 m k.number open_there.0)
-      ∙ (ap (λ o. option_or o (ends m e)) open_there.1 ∙ ap (λ b. if b then Some (end_of did.2.0) else None) (eq-eqb m m refl))) in
-      subst (Ends l m) (sym did.2.2) (ends_answer l m did.2.0 now)
+      ∙ (ap (λ o. option_or o (ends m e)) open_there.1 ∙ ap (λ b. if b then Some (end_of did.2.0) else None) (eq-eqb m m refl)))
+
+  pub end_comes : RegistryLaws → IsOpen k m → Ends l m r
+  end_comes laws is = subst (Ends l m) (sym did.2.2) (ends_answer l m did.2.0 (ended_now laws is))
+
+  -- memory was wanting: it is ended with that
+  pub end_wants : RegistryLaws → IsOpen k m → r ≡ Err Memory → ended_as l.seen m ≡ Some ended.NoMemory
+  end_wants laws is none = ended_now laws is ∙ ap (λ e. Some e) (no_memory did.2.0 (sym did.2.2 ∙ none))
 
   pub end_closes : (k0 : Known RegEntry) → Within m k0 k → Closes m k0 l
   end_closes k0 w =
@@ -276,6 +287,9 @@ took_oldest k l r x did is =
       seen = ap (λ p. p.seen) (subst (λ o. EntersIf k d.0 (option_map (λ j. Claim k.number j) o) l) (n.1 ∙ ap (λ m. Some m) (sym n.2)) d.2.0.1).0;
       text = n.3 ∙ ap (λ m. text_at (larvals_of d.0) m) (sym n.2);
     }
+
+pub took_not : (k l : Known RegEntry) (r : Result (Option Claimed) RegErr) (e : RegErr) → HasClaimed k l None r → r ≡ Err e → Meets k (λ h. Leaves k h l)
+took_not k l r e did is = let d = subst (λ y. HasClaimed k l None y) is did in (d.0, d.1, d.2.1.1)
 
 pub took_none : (k l : Known RegEntry) (r : Result (Option Claimed) RegErr) → HasClaimed k l None r → r ≡ Ok None → Meets k (λ h. (claimed_number (larvals_of h) None ≡ None) × Leaves k h l)
 took_none k l r did is =

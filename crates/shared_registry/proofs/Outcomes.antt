@@ -1,6 +1,6 @@
 -- What callers of the building calls learn.
 use Rattle.std.proofs.Common.{◌≡◌, ℕ, zero, suc, ◌<◌, ◌≤◌, ◌⊎◌, inl, inr, Bool, true, false, not, ◌&&◌, eqb, if◌then◌else◌, List, [], ◌∷◌, ◌++◌, length, refl, ap, sym, ◌∙◌, subst, arith, Option, Some, None, Result, Ok, Err, IsSome}
-use Rattle.std.specs.Prelude.{slice_get, IfOk, nat_lt, is_none}
+use Rattle.std.specs.Prelude.{slice_get, IfOk, MatchResult, nat_lt, is_none}
 use Rattle.std.specs.Option.{option_map, option_map_or}
 use Rattle.std.proofs.lemmas.Bool.Decides.{nat_tests}
 use Rattle.kc_base.specs.declared.error_numbers.Errno.{Errno}
@@ -8,6 +8,7 @@ use Rattle.alg_registry.specs.declared.row.Larval.{Larval}
 use Rattle.alg_registry.specs.declared.spec.Spec.{Spec}
 use Rattle.alg_registry.specs.declared.entry.Claimed.{Claimed}
 use Rattle.alg_registry.specs.declared.entry.Looked.{Looked}
+use Rattle.alg_registry.specs.declared.entry.Ended.TheVariants as ended
 use Rattle.alg_registry.specs.declared.entry.RegErr.{RegErr}
 use Rattle.alg_registry.specs.declared.entry.RegEntry.{RegEntry}
 use Rattle.alg_registry.specs.declared.entry.RegEntry.TheVariants.{Enlist, Look, Claim, End, Waited, Unlist, Get, Put, Refs}
@@ -167,12 +168,15 @@ module _ (k l : Known RegEntry) (r : Result (Option Claimed) RegErr) (x : Claime
   pub works_oldest : (p : Known RegEntry) → Closes x.larval l p → Works k p
   works_oldest p c = closed k l x.larval (claimed_some k l None r did x is) p c
 
-  pub built_oldest : {E : Type 0} (p : Known RegEntry) (came : Result ℕ BuildErr) (answer : Result Bool E) → Closes x.larval l p → Ends p x.larval came → IfOk answer (λ b. (b ≡ true) × HasCome came) → BuiltOne k p answer
-  built_oldest p came (Err e) c ends ok = tt
-  built_oldest p came (Ok false) c ends ok = absurd (let f : false ≡ true = ok.0 in cc)
-  built_oldest p came (Ok true) c ends ok =
+  pub built_oldest : {E : Type 0} (p : Known RegEntry) (came : Result ℕ BuildErr) (answer : Result Bool E) → Closes x.larval l p → Ends p x.larval came → (came ≡ Err build.Memory → ended_as p.seen x.larval ≡ Some ended.NoMemory)
+      → MatchResult answer (λ b. (b ≡ true) × HasCome came) (λ _. came ≡ Err build.Memory) → BuiltOne k p answer
+  built_oldest p came (Err e) c ends wanting said =
       let t = took_oldest k l r x did is in
-      (t.h, t.met, (x.larval, t.oldest, (c.goes.between, c.goes.seen ∙ ap (λ y. y ++ c.goes.between) t.seen), come_some p x.larval came ends ok.1))
+      inr (t.h, t.met, (x.larval, t.oldest, (c.goes.between, c.goes.seen ∙ ap (λ y. y ++ c.goes.between) t.seen), wanting said))
+  built_oldest p came (Ok false) c ends wanting said = absurd (let f : false ≡ true = said.0 in cc)
+  built_oldest p came (Ok true) c ends wanting said =
+      let t = took_oldest k l r x did is in
+      (t.h, t.met, (x.larval, t.oldest, (c.goes.between, c.goes.seen ∙ ap (λ y. y ++ c.goes.between) t.seen), come_some p x.larval came ends said.1))
 
 module _ (laws : RegistryLaws) where
   look_known : (c : ℕ) (before later whole : List RegEntry) (text : List ℕ) (answer : Looked) (e : RegEntry) → IsLook c text answer e → whole ≡ before ++ e ∷ later → LegalReg whole → HasText whole text answer × FoundExists whole answer

@@ -3,6 +3,7 @@ use Rattle.std.specs.Prelude.{ℕ, ◌≡◌, ◌⊎◌, Bool, true, false, List
 use Rattle.std.specs.List.{list_all, cons_option}
 use Rattle.alg_registry.specs.declared.entry.Looked.{Looked}
 use Rattle.alg_registry.specs.declared.entry.Looked.TheVariants.{Pending, Began}
+use Rattle.alg_registry.specs.declared.entry.Ended.TheVariants.{NoMemory}
 use Rattle.alg_registry.specs.declared.entry.RegEntry.{RegEntry}
 use Rattle.alg_registry.specs.declared.entry.RegEntry.TheVariants.{Look, Claim, End, Waited}
 use Rattle.alg_registry.specs.Rows.{larvals_of, texts}
@@ -95,8 +96,12 @@ HasText h text (Pending larval) = slice_get (texts h) larval ≡ Some text
 HasText h text (Began larval) = slice_get (texts h) larval ≡ Some text
 HasText h text _ = ⊤
 
--- the oldest larval that nobody had claimed was claimed and came to something, or there was none
+-- the oldest larval that nobody had claimed was claimed, and this holds of it
+abbrev pub ClaimedOldest : Known RegEntry → Known RegEntry → (ℕ → Type 0) → Type 0
+ClaimedOldest k l P = AtTurn caller_of IsFaithful k (λ h. (larval : ℕ) × (claimed_number (larvals_of h) None ≡ Some larval) × StartsWith l.seen (h ++ Claim k.number larval ∷ []) × P larval)
+
+-- It came to something, or there was none. Where memory was refused, none was claimed, or it ended with that.
 abbrev pub BuiltOne : {E : Type 0} → Known RegEntry → Known RegEntry → Result Bool E → Type 0
-BuiltOne k l (Ok true) = AtTurn caller_of IsFaithful k (λ h. (larval : ℕ) × (claimed_number (larvals_of h) None ≡ Some larval) × StartsWith l.seen (h ++ Claim k.number larval ∷ []) × IsSome (outcome_of (ended_as l.seen larval)))
+BuiltOne k l (Ok true) = ClaimedOldest k l (λ larval. IsSome (outcome_of (ended_as l.seen larval)))
 BuiltOne k l (Ok false) = AtTurn caller_of IsFaithful k (λ h. (claimed_number (larvals_of h) None ≡ None) × Leaves k h l)
-BuiltOne k l (Err e) = ⊤
+BuiltOne k l (Err e) = AtTurn caller_of IsFaithful k (λ h. Leaves k h l) ⊎ ClaimedOldest k l (λ larval. ended_as l.seen larval ≡ Some NoMemory)

@@ -62,7 +62,7 @@ pub(crate) fn given_of(built: Result<Spec, BuildErr>) -> Result<Spec, Ended>
 
 /// That a larval came to something.
 fn has_come(came: Result<u64, BuildErr>) -> Result<bool, AllocError>
-    ensures { IfOk result (λ it. (it ≡ true) × HasCome came) }
+    ensures { MatchResult result (λ it. (it ≡ true) × HasCome came) (λ _. came ≡ Err BuildErr.Memory) }
 {
     match came {
         Err(BuildErr::Memory) => Err(AllocError),
@@ -290,6 +290,7 @@ fn build_claimed<R: Wait>(
     ensures ready { IsSoundOn registry.now result.0 }
     ensures closes { Closes larval (knows pass) (knows result.0) }
     ensures ends { Ends (knows result.0) larval result.1 }
+    ensures wanting { result.1 ≡ Err BuildErr.Memory → ended_as (knows result.0).seen larval ≡ Some Ended.NoMemory }
 {
     let (pass, built) = build(rt, alloc, registry, pass, name, larval);
     finish(rt, registry, pass, larval, built)
@@ -436,6 +437,7 @@ fn build_text<R: Wait>(
     ensures ready { IsSoundOn registry.now result.0 }
     ensures closes { Closes larval (knows pass) (knows result.0) }
     ensures ends { Ends (knows result.0) larval result.1 }
+    ensures wanting { result.1 ≡ Err BuildErr.Memory → ended_as (knows result.0).seen larval ≡ Some Ended.NoMemory }
 {
     one_name();
     computed_tree();

@@ -13,7 +13,7 @@ use Rattle.shared_registry.specs.Builds.{Looks, HasText}
 use Rattle.shared_registry.specs.Within.{ChildrenCome}
 use Rattle.shared_registry.proofs.Working.{works_still, works_none, works_on, within_works, resolves_so}
 use Rattle.shared_registry.proofs.Waiting.{began_on}
-use Rattle.shared_registry.proofs.Claiming.{begins, closed, claimed_it, claimed_none, claimed_not, text_on, end_comes, end_closes}
+use Rattle.shared_registry.proofs.Claiming.{begins, closed, claimed_it, claimed_none, claimed_not, text_on, end_comes, end_closes, end_wants}
 use Rattle.shared_registry.proofs.Children.{Asks, asks_none, asks_more, next_child, within_child, child_failed, builds_none, builds_failed, builds_derived, children_exist, come_idle, within_idle, own_within, still_open}
 use Rattle.shared_registry.proofs.builds.+resolve.Goals as goal
 
@@ -71,6 +71,11 @@ build_claimed-returns-clause-closes g t c =
 pub build_claimed-returns-clause-ends : goal.build_claimed-returns-clause-ends
 build_claimed-returns-clause-ends g t c =
     end_comes (knows c.build-pass.result.0) (knows c.finish.result.0) c.args.larval c.finish.result.1 c.finish.ensures.ended c.requires.ready.known.laws
+    (still_open c.args.larval c.args.name.now (knows c.args.pass) (knows c.build-pass.result.0) c.requires.begins c.build-pass.ensures.within)
+
+pub build_claimed-returns-clause-wanting : goal.build_claimed-returns-clause-wanting
+build_claimed-returns-clause-wanting g t c =
+    end_wants (knows c.build-pass.result.0) (knows c.finish.result.0) c.args.larval c.finish.result.1 c.finish.ensures.ended c.requires.ready.known.laws
     (still_open c.args.larval c.args.name.now (knows c.args.pass) (knows c.build-pass.result.0) c.requires.begins c.build-pass.ensures.within)
 
 pub resolve_children-loop-child-init : goal.resolve_children-loop-child-init

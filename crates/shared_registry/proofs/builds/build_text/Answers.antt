@@ -4,7 +4,7 @@ use Rattle.alg_registry.proofs.OwnCalls.{last_any}
 use Rattle.shared_registry.specs.Own.{open_of}
 use Rattle.shared_registry.specs.Within.{BeginsText}
 use Rattle.shared_registry.proofs.Working.{within_works, works_still}
-use Rattle.shared_registry.proofs.Claiming.{end_comes, end_closes}
+use Rattle.shared_registry.proofs.Claiming.{end_comes, end_closes, end_wants}
 use Rattle.shared_registry.proofs.Outcomes.{larvals_named, is_named, same_tree}
 use Rattle.shared_registry.proofs.builds.build_text.Goals as goal
 
@@ -30,3 +30,8 @@ pub returns-in-Err-clause-ends : goal.returns-in-Err-clause-ends
 returns-in-Err-clause-ends g c =
     let k = knows c.args.pass in
     end_comes k (knows c.finish.result.0) c.args.larval c.finish.result.1 c.finish.ensures.ended c.registry_laws.ensures (last_any (open_of k) c.args.larval c.requires.begins.last)
+
+pub returns-in-Err-clause-wanting : goal.returns-in-Err-clause-wanting
+returns-in-Err-clause-wanting g c =
+    let k = knows c.args.pass in
+    end_wants k (knows c.finish.result.0) c.args.larval c.finish.result.1 c.finish.ensures.ended c.registry_laws.ensures (last_any (open_of k) c.args.larval c.requires.begins.last)
