@@ -1,6 +1,6 @@
 //! The calls of C, each on a place for a transform.
 
-ghost use Rattle.std.specs.Prelude.{◌≡◌, ◌<◌, ℕ, length, map, None};
+ghost use Rattle.std.specs.Prelude.{◌≡◌, ◌≢◌, ◌<◌, ℕ, length, map, None};
 ghost use Rattle.perdoaze_calls.specs.Many.{CameTo, question_of};
 ghost use Rattle.perdoaze_calls.specs.Pieces.{text_in};
 ghost use Rattle.piece_modes.specs.Pieces.{text_over, size_of};
@@ -160,6 +160,7 @@ pub fn encrypt_pieces_within(
     ensures kept { slot.new.handle.value ≡ slot.old.handle.value }
     ensures came { OnPlace slot.old.handle.value (λ t. OrNoMemory (EncryptsWithin t iv.now aad.now n))
         result (text_over pieces.old) (text_over pieces.new) written.new }
+    ensures one { length pieces.old ≡ 1 → result ≢ Status.NoMemory }
     ensures sizes { map size_of pieces.new ≡ map size_of pieces.old }
 {
     *written = 0;
@@ -184,6 +185,7 @@ pub fn decrypt_pieces_within(
     ensures kept { slot.new.handle.value ≡ slot.old.handle.value }
     ensures came { OnPlace slot.old.handle.value (λ t. OrNoMemory (DecryptsWithin t iv.now aad.now n))
         result (text_over pieces.old) (text_over pieces.new) written.new }
+    ensures one { length pieces.old ≡ 1 → result ≢ Status.NoMemory }
     ensures sizes { map size_of pieces.new ≡ map size_of pieces.old }
 {
     *written = 0;

@@ -1,6 +1,6 @@
 //! Requests whose text lies in pieces.
 
-ghost use Rattle.std.specs.Prelude.{◌≡◌, ◌≤◌, length, map, IsTrue, IsFalse, MatchOption};
+ghost use Rattle.std.specs.Prelude.{◌≡◌, ◌≢◌, ◌≤◌, length, map, IsTrue, IsFalse, MatchOption};
 ghost use Rattle.perdoaze_calls.specs.Pieces.{text_in, most_on_stack};
 ghost use Rattle.piece_modes.specs.Pieces.{text_over, size_of};
 ghost use Rattle.perdoaze_calls.specs.Requests.{Encrypts, Decrypts, EncryptsWithin, DecryptsWithin, Digests, OrNoMemory};
@@ -246,6 +246,7 @@ impl Transform {
     ) -> Status
         ensures came { OrNoMemory (EncryptsWithin self.now iv.now aad.now n)
             result (text_over pieces.old) (text_over pieces.new) written.new }
+        ensures one { length pieces.old ≡ 1 → result ≢ Status.NoMemory }
         ensures sizes { map size_of pieces.new ≡ map size_of pieces.old }
     {
         if pieces.len() == 1 {
@@ -279,6 +280,7 @@ impl Transform {
     ) -> Status
         ensures came { OrNoMemory (DecryptsWithin self.now iv.now aad.now n)
             result (text_over pieces.old) (text_over pieces.new) written.new }
+        ensures one { length pieces.old ≡ 1 → result ≢ Status.NoMemory }
         ensures sizes { map size_of pieces.new ≡ map size_of pieces.old }
     {
         if pieces.len() == 1 {
