@@ -171,8 +171,8 @@ fn end_shared<R: Wait, G: Gate>(
     Ok(())
 }
 
-// Shuts the board where the end was held up to that. Otherwise it takes a turn, at which the caller has seen all that it
-// did. No memory is taken.
+// Shuts the board where the end was held up to that. Otherwise it takes a turn, at which the caller has seen all that
+// it did. No memory is taken.
 fn leave_board<R: Wait>(
     rt: &R,
     board: &SharedBoard<Job>,
