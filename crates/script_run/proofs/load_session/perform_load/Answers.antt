@@ -18,7 +18,7 @@ returns-in_err-hold_requests-clause-unshut g c =
     inl (asked.unshut (asked.goes_on.board.number ∙ (c.hold_opening.ensures.goes_on.board.number ∙ c.requires.fresh.board.0)))
 
 pub hold_end-requires-clause-first : goal.hold_end-requires-clause-first
-hold_end-requires-clause-first g c = λ lifetimes bounds.
+hold_end-requires-clause-first g c =
     c.hold_requests.ensures.goes_on.board.number ∙ (c.hold_opening.ensures.goes_on.board.number ∙ c.requires.fresh.board.0)
 
 pub returns-in_err-hold_end-clause-goes_on : goal.returns-in_err-hold_end-clause-goes_on
