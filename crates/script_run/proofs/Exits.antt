@@ -1,5 +1,5 @@
 -- Each way in which a session leaves the lines of a source.
-use Rattle.std.proofs.Common.{◌≡◌, ℕ, ◌+◌, ◌-◌, ◌^◌, ◌<◌, ◌||◌, Bool, true, false, List, [], ◌∷◌, ◌++◌, length, take, Option, Some, None, Ok, Err, inl, inr, refl, sym, ap, subst, ◌∙◌, append-nil, arith}
+use Rattle.std.proofs.Common.{◌≡◌, ℕ, ◌+◌, ◌-◌, ◌^◌, ◌<◌, ◌≤◌, ◌||◌, Bool, true, false, List, [], ◌∷◌, ◌++◌, length, take, Option, Some, None, Ok, Err, inl, inr, refl, sym, ap, subst, ◌∙◌, append-nil, arith, le_trans}
 use Rattle.std.specs.Prelude.{IsErrOf}
 use Rattle.std.specs.List.{list_any}
 use Rattle.std.specs.Io.KnownBytes.{IsAtEnd}
@@ -15,6 +15,7 @@ use Rattle.kc_base.specs.declared.transfer.InputError.{InputError}
 use Rattle.kc_base.specs.declared.transfer.InputError.TheVariants as input
 use Rattle.kc_base.specs.declared.transfer.SinkError.{SinkError}
 use Rattle.kc_base.specs.declared.transfer.SinkError.TheVariants as output
+use Rattle.kc_base.specs.Streams.{Rose}
 use Rattle.script_session.specs.EndOfInput.{AnswersEnd, EndsShut}
 use Rattle.script_session.specs.Replies.{IsReady, Replies}
 use Rattle.script_session.specs.States.{State}
@@ -28,8 +29,9 @@ use Rattle.shared_registry.specs.declared.registry_lock.SharedRegistry.{SharedRe
 use Rattle.transforms.specs.declared.ask.Ask.{Ask}
 use Rattle.transforms.specs.declared.request.Finished.{Finished}
 use Rattle.script_run.specs.declared.errors.RunError.{RunError}
-use Rattle.script_run.specs.declared.errors.RunError.TheVariants.{ReadFault, WriteFault, TooLong, NoMemory}
+use Rattle.script_run.specs.declared.errors.RunError.TheVariants.{Usage, ReadFault, WriteFault, TooLong, NoMemory}
 use Rattle.script_run.specs.Answered.{AreAnsweredAfter, BeginsWithTextAfter, IsCutOffAfter, IsBrokenOffAfter, AnswersFirst, RunsSource, script_in}
+use Rattle.script_run.specs.Faults.{TellsFaults}
 use Rattle.script_run.specs.Laws.{Laws}
 use Rattle.script_run.specs.Runs.{Gains, IsFresh, IsUnshutOrEnds, Writes, Cuts, Breaks, AnswersAndShuts, IsFrontAfter, IsByLinesAfter}
 use Rattle.script_run.specs.Statuses.{of_input, of_output}
@@ -69,6 +71,43 @@ wrote_too_long output.NoMemory is = cc
 
 error-is : (a b : RunError) → IsErrOf {T = Bool} (Err a) b → a ≡ b
 error-is a b e = cc
+
+read_used : (e : InputError) → of_input e ≡ Usage → ⊥
+read_used input.Failed is = cc
+read_used input.NoMemory is = cc
+read_used input.TooLong is = cc
+
+wrote_used : (e : SinkError) → of_output e ≡ Usage → ⊥
+wrote_used output.Failed is = cc
+wrote_used output.NoMemory is = cc
+
+-- ---- faults
+
+-- what rose behind a number rose behind each before it
+rose-since : (a b c : ℕ) → a ≤ b → Rose b c → Rose a c
+rose-since a b c le rose = omega arith
+
+-- a read failed
+pub tells-unread : (e : InputError) (a b c x y : ℕ) → a ≤ b → (e ≡ input.Failed → Rose b c) → x ≤ y → TellsFaults (Err (of_input e)) a c x y
+tells-unread e a b c x y le cause later = record {
+  read_fault = λ is. rose-since a b c le (cause (read_failed e (error-is (of_input e) ReadFault is)));
+  write_fault = λ is. absurd (read_wrote e (error-is (of_input e) WriteFault is));
+  later = later;
+  usage = λ is. read_used e (error-is (of_input e) Usage is);
+}
+
+-- a write failed
+pub tells-unwritten : (e : SinkError) (a b x y z : ℕ) → x ≤ y → y ≤ z → (e ≡ output.Failed → Rose y z) → TellsFaults (Err (of_output e)) a b x z
+tells-unwritten e a b x y z le later cause = record {
+  read_fault = λ is. absurd (wrote_read e (error-is (of_output e) ReadFault is));
+  write_fault = λ is. rose-since x y z le (cause (wrote_failed e (error-is (of_output e) WriteFault is)));
+  later = le_trans le later;
+  usage = λ is. wrote_used e (error-is (of_output e) Usage is);
+}
+
+-- no call failed
+pub tells-none : (bad : Bool) (a b x y : ℕ) → x ≤ y → TellsFaults (Ok bad) a b x y
+tells-none bad a b x y later = record { read_fault = λ is. absurd cc; write_fault = λ is. absurd cc; later = later; usage = λ is. cc }
 
 -- nothing was read
 pub runs-nothing : Laws → {W : Type 0} (registry : SharedRegistry) (board : SharedBoard W Ask Finished) (first : State) (left held : Option (List ℕ)) → IsReady registry board first → IsFresh first → RunsSource left left first first (Err NoMemory) held held

@@ -18,20 +18,17 @@ use Rattle.board.specs.Legal.{MayManage, AreRightAfter, LegalBoard, is_shut, is_
 use Rattle.board.specs.Others.{WorkLeavesOwn}
 use Rattle.board.specs.PipelineHistory.{is_work}
 use Rattle.crew.specs.declared.passes.Passes.{Passes}
-use Rattle.crew.specs.Both.{ArePassesOn, HaveNext, CrewedOnBoth}
+use Rattle.crew.specs.Both.{HaveNext, CrewedOnBoth}
 use Rattle.crew.specs.Crews.{Crewed, with_next}
-use Rattle.dialogues.specs.AllocAndFree.{lists_beside}
 use Rattle.dialogues.specs.BoardCalls.{BoardCall, Shuts, board_calls, board_calls_from}
 use Rattle.dialogues.specs.Dialogues.{Dialogue}
-use Rattle.dialogues.specs.RegistryCalls.{reg_calls}
 use Rattle.dialogues.specs.Texts.{IsText}
 use Rattle.script_run.specs.ByLines.{IsTextByLines, LinesTell}
 use Rattle.script_run.specs.Fronts.{IsFrontText}
 use Rattle.dialogues.specs.ScriptState.{start}
 use Rattle.script_session.specs.EndOfInput.{EndsShut}
 use Rattle.script_session.specs.PerformedDialogue.{HasSeenMore}
-use Rattle.script_session.specs.Replies.{IsReady}
-use Rattle.script_session.specs.States.{State, ReferencesMatch, PipelinesMatch, MadeWide}
+use Rattle.script_session.specs.States.{State}
 use Rattle.script_text.specs.declared.commands.Line.{Line}
 use Rattle.script_text.specs.Script.{script_of}
 use Rattle.script_text.specs.Whole.{whole_script}
@@ -39,10 +36,7 @@ use Rattle.settled_scripts.specs.PrintedText.{PrintsPlain}
 use Rattle.settled_scripts.specs.Settled.{IsSettled, plain_text}
 use Rattle.templates.specs.Table.{table}
 use Rattle.recorded_calls.specs.Passes.{known, BoardPass}
-use Rattle.shared_board.specs.declared.shared.SharedBoard.{SharedBoard}
-use Rattle.shared_registry.specs.declared.registry_lock.SharedRegistry.{SharedRegistry}
 use Rattle.transforms.specs.declared.ask.Ask.{Ask}
-use Rattle.transforms.specs.declared.request.Finished.{Finished}
 use Rattle.turn_lock.specs.PassLaws.{AtTurn, Enters, Leaves, IsOwn}
 use Rattle.turn_lock.specs.Passes.{knows}
 use Rattle.turn_lock.specs.Turns.{Known, StartsWith, Each, Shows, of, fresh_pass}
@@ -61,50 +55,6 @@ use Rattle.script_run.proofs.Going.{nothing_fronted, nothing_by_lines, nothing_b
 map_ok : {A B : Type 0} (result : Result Bool RunError) → (A → B) → OnOk result A → OnOk result B
 map_ok (Ok bad) f holds = f holds
 map_ok (Err e) f holds = tt
-
--- ---- before the first line
-
--- a pass that has seen nothing
-empty : {E : Type 0} → Known E → Known E
-empty k = record { number = 0; next = k.next; seen = []; made = []; ended = k.ended }
-
-is-empty : {E : Type 0} (k : Known E) → k.number ≡ 0 → k.seen ≡ [] → k.made ≡ [] → empty k ≡ k
-unfolding empty
-is-empty k n s m = λ i. record { number = sym n i; next = k.next; seen = sym s i; made = sym m i; ended = k.ended }
-
-empty-stands : (k : Known RegEntry) → ReferencesMatch [] (empty k)
-unfolding empty reg_calls
-empty-stands k = record { caller = record { outsider = refl; own = refl; settled = tt }; referenced = λ id. refl }
-
-empty-posted : (k : Known (BoardEntry Ask)) → PipelinesMatch (start 0) (empty k)
-unfolding empty
-empty-posted k = record {
-  outsider = inl (omega arith);
-  legal = tt;
-  pipes = All-nil _;
-  apart = λ number. omega arith;
-  owned = λ number owns. absurd owns.0.1;
-  requests = refl;
-  bytes = refl;
-  unshut = λ first. refl;
-}
-
-empty-wide : (lists : ℕ) (k : Known (BoardEntry Ask)) → MadeWide lists (empty k)
-unfolding empty
-empty-wide lists k p owns pad = absurd owns.0.1
-
-pub new-ready : {W : Type 0} (registry : SharedRegistry) (board : SharedBoard W Ask Finished) (workers : ℕ) (p : Passes Ask) (s : State) → ArePassesOn board registry p → AreNew p → workers ≤ 16
-    → s ≡ record { workers = workers; script_state = start 0; registry = Some p.registry; board = Some p.board } → IsReady registry board s
-new-ready registry board workers p s at new few is =
-    subst (IsReady registry board) (sym is) (record {
-      calls_registry = ap (λ n. Some n) at.1;
-      calls_board = ap (λ n. Some n) at.0;
-      stands = subst (ReferencesMatch []) (is-empty (knows p.registry) new.registry.0 new.registry.1 new.registry.2) (empty-stands (knows p.registry));
-      posted = subst (PipelinesMatch (start 0)) (is-empty (knows p.board) new.board.0 new.board.1 new.board.2) (empty-posted (knows p.board));
-      few = few;
-      wide = subst (MadeWide (lists_beside workers)) (is-empty (knows p.board) new.board.0 new.board.1 new.board.2) (empty-wide (lists_beside workers) (knows p.board));
-      shared = All-nil _;
-    })
 
 -- ---- the board is shut
 

@@ -3,6 +3,7 @@ pub mod Fronts
 pub mod Going
 pub mod Readings
 pub mod Exits
+pub mod NewSession
 pub mod Finishing
 pub mod LoadLines
 pub mod Loaded

@@ -36,6 +36,7 @@ use Rattle.script_run.specs.Laws.{Laws}
 use Rattle.script_run.specs.Loads.{IsHeld, PerformsOn, PerformsOpening, IsLoadTurnAfter}
 use Rattle.script_run.specs.Runs.{GoesOn, IsFresh}
 use Rattle.script_run.proofs.Following.{reg_calls-same, board_calls-same, in_turn-on}
+use Rattle.script_run.proofs.Going.{goes-same, goes-then}
 
 -- ---- a part of a dialogue
 
@@ -146,22 +147,34 @@ line-with workers n line s s' x y same on = subst (λ w. LineOn w n line s s' x 
 opening-with : (workers n : ℕ) (s s' : State) (x y : Sha256) → s.workers ≡ workers → PerformsOpening s.workers n s s' x y → PerformsOpening workers n s s' x y
 opening-with workers n s s' x y same on = subst (λ w. PerformsOpening w n s s' x y) same on
 
-pub opening-on : (s s1 s2 s3 s4 : State) (x x1 x2 x3 x4 : Sha256) → GoesOn s s1 → GoesOn s1 s2 → GoesOn s2 s3
-    → PerformsOpening s.workers 0 s s1 x x1 → PerformsOpening s1.workers 1 s1 s2 x1 x2 → PerformsOpening s2.workers 2 s2 s3 x2 x3 → PerformsOpening s3.workers 3 s3 s4 x3 x4
-    → (later : ScriptState → Dialogue) → PerformsOn (lines_dialogue s.workers s.script_state 0 opening later) later s s4 x x4
-opening-on s s1 s2 s3 s4 x x1 x2 x3 x4 g1 g2 g3 on1 on2 on3 on4 later =
-    let w = s.workers in
-    let w1 = g1.locks.workers in
-    let w2 = g2.locks.workers ∙ w1 in
-    let w3 = g3.locks.workers ∙ w2 in
-    let last : ScriptState → Dialogue = λ script_state. lines_dialogue w script_state 3 (drop 3 opening) later in
-    let third : ScriptState → Dialogue = λ script_state. lines_dialogue w script_state 2 (drop 2 opening) later in
-    let second : ScriptState → Dialogue = λ script_state. lines_dialogue w script_state 1 (drop 1 opening) later in
-    λ whole held.
-    opening-with w 3 s3 s4 x3 x4 w3 on4 later whole
-    (opening-with w 2 s2 s3 x2 x3 w2 on3 last whole
-    (opening-with w 1 s1 s2 x1 x2 w1 on2 third whole
-    (on1 second whole held)))
+-- what is left of the opening from a number on
+abbrev OpeningLeft : ℕ → ℕ → (ScriptState → Dialogue) → ScriptState → Dialogue
+OpeningLeft workers number later script_state = lines_dialogue workers script_state number (drop number opening) later
+
+opening-step : (workers number : ℕ) (s s' : State) (x y : Sha256) → number < 4 → PerformsOpening workers number s s' x y
+    → (later : ScriptState → Dialogue) → PerformsOn (OpeningLeft workers number later s.script_state) (OpeningLeft workers (number + 1) later) s s' x y
+opening-step workers zero s s' x y below on later = on (OpeningLeft workers 1 later)
+opening-step workers (suc zero) s s' x y below on later = on (OpeningLeft workers 2 later)
+opening-step workers (suc (suc zero)) s s' x y below on later = on (OpeningLeft workers 3 later)
+opening-step workers (suc (suc (suc zero))) s s' x y below on later = on later
+opening-step workers (suc (suc (suc (suc number)))) s s' x y below on later = absurd (omega arith)
+
+-- The session s has held the lines of the opening below a number, and is s' now.
+pub record HoldsOpening (s s' : State) (x y : Sha256) (number : ℕ) : Type 0 where
+  pub on : (later : ScriptState → Dialogue) → PerformsOn (lines_dialogue s.workers s.script_state 0 opening later) (OpeningLeft s.workers number later) s s' x y
+  pub goes : GoesOn s s'
+
+pub opening-begins : (s : State) (x : Sha256) → HoldsOpening s s x x 0
+opening-begins s x = record { on = λ later whole held. held; goes = goes-same s }
+
+pub opening-more : (number : ℕ) (s s1 s2 : State) (x x1 x2 : Sha256) → number < 4 → HoldsOpening s s1 x x1 number → PerformsOpening s1.workers number s1 s2 x1 x2 → GoesOn s1 s2 → HoldsOpening s s2 x x2 (number + 1)
+opening-more number s s1 s2 x x1 x2 below before on goes = record {
+  on = λ later whole held. opening-step s.workers number s1 s2 x1 x2 below (opening-with s.workers number s1 s2 x1 x2 before.goes.locks.workers on) later whole (before.on later whole held);
+  goes = goes-then s s1 s2 before.goes goes;
+}
+
+pub opening-held : (number : ℕ) (s s' : State) (x y : Sha256) → number ≡ 4 → HoldsOpening s s' x y number → (later : ScriptState → Dialogue) → PerformsOn (lines_dialogue s.workers s.script_state 0 opening later) later s s' x y
+opening-held number s s' x y all held later = subst (λ n. PerformsOn (lines_dialogue s.workers s.script_state 0 opening later) (OpeningLeft s.workers n later) s s' x y) all (held.on later)
 
 abbrev pub LeftAt : ℕ → ℕ → ℕ → ℕ → ScriptState → Dialogue
 LeftAt workers count number state script_state = lines_dialogue workers script_state number (lines_from number state (count - number)) end

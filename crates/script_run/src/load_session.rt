@@ -36,6 +36,9 @@ use std::sync::Wait;
 use std::thread::Threads;
 use transforms::Job;
 
+// How many lines make both transforms.
+const OPENING_LINES: u32 = 4;
+
 // Answers one line, which makes at most one look at once and collects nothing.
 fn perform_line<R: Threads + Wait + Sync>(
     rt: &R,
@@ -108,10 +111,9 @@ fn hold_opening<R: Threads + Wait + Sync>(
     ensures goes_on { GoesOn session.old session.new }
     ensures unshut { (known session.new.board).number ≡ 0 → is_shut (known session.new.board).seen ≡ false }
 {
-    hold_opening_line(rt, alloc, board, registry, session, hasher, 0)?;
-    hold_opening_line(rt, alloc, board, registry, session, hasher, 1)?;
-    hold_opening_line(rt, alloc, board, registry, session, hasher, 2)?;
-    hold_opening_line(rt, alloc, board, registry, session, hasher, 3)?;
+    for number in 0..OPENING_LINES {
+        hold_opening_line(rt, alloc, board, registry, session, hasher, number)?;
+    }
     Ok(())
 }
 
@@ -225,7 +227,6 @@ pub fn perform_load<G: Gate, R: Threads + Wait + Sync>(
     ensures goes_on { GoesOn session.old session.new }
     ensures unshut { IsUnshutOrEnds (known session.new.board) }
 {
-    laws();
     let mut hasher = Sha256::new();
     hold_opening(rt, alloc, board, registry, session, &mut hasher)?;
     hold_requests(
@@ -239,5 +240,6 @@ pub fn perform_load<G: Gate, R: Threads + Wait + Sync>(
         count,
     )?;
     hold_end(rt, alloc, board, registry, gate, session, &mut hasher)?;
+    laws();
     Ok(hasher.finalize())
 }

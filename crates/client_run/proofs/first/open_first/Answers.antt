@@ -8,12 +8,13 @@ use Rattle.script_session.specs.Replies.{Replies}
 use Rattle.script_text.specs.Script.{script_of}
 use Rattle.recorded_calls.specs.Passes.{known}
 use Rattle.turn_lock.specs.Passes.{knows}
-use Rattle.client_run.proofs.Opening.{first-ready, shared-of, own-of, opens}
+use Rattle.script_run.proofs.NewSession.{new-ready}
+use Rattle.client_run.proofs.Opening.{shared-of, own-of, opens}
 use Rattle.client_run.proofs.first.open_first.Goals as goal
 
 pub answer_part-answer-requires-clause-ready : goal.answer_part-answer-requires-clause-ready
 answer_part-answer-requires-clause-ready g c = λ lifetimes bounds.
-    first-ready c.args.registry.now c.args.board.now c.args.workers c.args.passes c.new-session.result c.requires.lock c.requires.new c.requires.few c.new-session.ensures
+    new-ready c.args.registry.now c.args.board.now c.args.workers c.args.passes c.new-session.result c.requires.lock c.requires.new c.requires.few c.new-session.ensures
 
 pub returns-in-Ok-shared-clause-opened : goal.returns-in-Ok-shared-clause-opened
 returns-in-Ok-shared-clause-opened g c =

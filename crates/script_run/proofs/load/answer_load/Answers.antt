@@ -1,4 +1,4 @@
-use Rattle.script_run.proofs.Finishing.{new-ready}
+use Rattle.script_run.proofs.NewSession.{new-ready}
 use Rattle.script_run.proofs.Loaded.{loads}
 use Rattle.script_run.proofs.load.answer_load.Goals as goal
 

@@ -1,4 +1,5 @@
-use Rattle.script_run.proofs.Finishing.{new-ready, answered-source}
+use Rattle.script_run.proofs.NewSession.{new-ready}
+use Rattle.script_run.proofs.Finishing.{answered-source}
 use Rattle.script_run.proofs.with_workers.answer_script.Goals as goal
 
 pub run_lines-answer-requires-clause-ready : goal.run_lines-answer-requires-clause-ready
