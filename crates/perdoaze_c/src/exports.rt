@@ -1,6 +1,6 @@
 //! What C calls. No pointer is NULL here, not even beside the length 0: the header's inline functions see to that.
 
-ghost use Rattle.std.specs.Prelude.{◌≡◌, ◌<◌, ℕ, length, map, None};
+ghost use Rattle.std.specs.Prelude.{◌≡◌, ◌≢◌, ◌<◌, ℕ, length, map, None};
 ghost use Rattle.perdoaze_calls.specs.Infos.{ListsTo, TellsTo};
 ghost use Rattle.perdoaze_calls.specs.Many.{CameTo, question_of};
 ghost use Rattle.perdoaze_calls.specs.Names.{BeginsTo};
@@ -8,6 +8,8 @@ ghost use Rattle.perdoaze_calls.specs.Pieces.{text_in};
 ghost use Rattle.piece_modes.specs.Pieces.{text_over, size_of};
 ghost use Rattle.perdoaze_calls.specs.Requests.{Encrypts, Decrypts, EncryptsWithin, DecryptsWithin, Digests, OnPlaceTo, OrNoMemory};
 ghost use Rattle.perdoaze_calls.specs.Settings.{KeySetTo, SizeSetTo, DuplicatesTo};
+ghost use Rattle.perdoaze_calls.specs.Status.{code_of};
+ghost use Rattle.perdoaze_calls.specs.declared.status.Status.TheVariants as Status;
 
 use perdoaze_calls::{Encryption, Info, Piece, PieceMut, Slot, calls, init, list, tell};
 use std::alloc::Global;
@@ -152,6 +154,7 @@ pub extern "C" fn perdoaze_raw_encryptv_in_place(
     ensures kept { slot.new.handle.value ≡ slot.old.handle.value }
     ensures came { OnPlaceTo slot.old.handle.value (λ t. OrNoMemory (EncryptsWithin t iv.now aad.now n))
         result (text_over text.old) (text_over text.new) written.new }
+    ensures one { length text.old ≡ 1 → result ≢ code_of Status.NoMemory }
     ensures sizes { map size_of text.new ≡ map size_of text.old }
 {
     calls::encrypt_pieces_within(slot, alloc, iv, aad, text, n, written).code()
@@ -171,6 +174,7 @@ pub extern "C" fn perdoaze_raw_decryptv_in_place(
     ensures kept { slot.new.handle.value ≡ slot.old.handle.value }
     ensures came { OnPlaceTo slot.old.handle.value (λ t. OrNoMemory (DecryptsWithin t iv.now aad.now n))
         result (text_over text.old) (text_over text.new) written.new }
+    ensures one { length text.old ≡ 1 → result ≢ code_of Status.NoMemory }
     ensures sizes { map size_of text.new ≡ map size_of text.old }
 {
     calls::decrypt_pieces_within(slot, alloc, iv, aad, text, n, written).code()
