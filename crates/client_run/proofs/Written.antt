@@ -207,6 +207,7 @@ module _ (clients : ℕ) (left left' : Option (List ℕ)) (parts : List (List �
     one_list = λ low. on-low _ answer ran.one_list low;
     malformed = λ low. told (λ input. (status_of answer ≡ 1 → IsTrue (has_malformed clients input)) × (IsTrue (has_malformed clients input) → status_of answer ≡ 1))
         (by-malformed answer (has_malformed clients c.input) (subst (λ scripts. IfOk answer (λ bad. bad ≡ list_any (list_any is_malformed) scripts)) same-scripts ran.malformed) low);
+    unrun = λ is. absurd (no-read answer ran.causes is);
     unwritten = λ is. absurd (no-read answer ran.causes is);
     front = λ is. told (λ input. GainsFrontOrNone held held' (IsOutput workers clients input r b) (traced trace r b))
         (on-fault _ answer (subst (λ scripts. OnErr answer (GainsFrontOrNone held held' (IsOutputBy workers scripts r b) (traced trace r b))) same-scripts ran.front) is);
@@ -233,6 +234,7 @@ nothing-ran workers clients trace status left left' held is = record {
   shut = λ low. absurd (high is low);
   one_list = λ low. absurd (high is low);
   malformed = λ low. absurd (high is low);
+  unrun = λ read. (refl, refl);
   unwritten = λ read. Keeps-refl held;
   front = λ fault. none left;
 }
