@@ -152,10 +152,11 @@ pub fn run<S: Source, K: Sink, G: Gate + Sync, R: Threads + Wait + Sync>(
     ensures untouched { UnlessAsked words.now ((src.new ≡ src.old) × (out.new ≡ out.old) × (result.registry ≡ []) × (result.board ≡ [])) }
 
     // 3: the source failed. The lines whose line feed stood in what it gave are answered whole, and nothing else is
-    // written. Of several scripts nothing is written, under 6 too.
+    // written. Of several scripts nothing is written, and none has run, under 6 too.
     ensures read_fault { result.status ≡ 3 → Rose (S.faults src.old) (S.faults src.new) }
     ensures answered { OfGiven result words.now 3 (S.left src.old) (S.left src.new) (WritesAnswered (K.held out.old) (K.held out.new)) }
     ensures clients_unwritten { AsksClients words.now → DidNotRead result → Keeps (K.held out.old) (K.held out.new) }
+    ensures clients_unrun { AsksClients words.now → DidNotRead result → (result.registry ≡ []) × (result.board ≡ []) }
 
     // 4: the sink failed. It has gained the text of the lines that stood before the last 65,536 bytes, or more. The
     // script has made the calls of what is answered, and none besides but the shut: only of the last line, or of the
