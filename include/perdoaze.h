@@ -359,8 +359,8 @@ static inline int perdoaze_decryptv(struct perdoaze *tfm, const void *iv, size_t
 
 /** As perdoaze_encrypt_in_place, where the buffer lies in pieces: its first `n` bytes are encrypted, and the tag goes behind them. No two
  *  pieces have a byte in common. One piece is worked where it lies. Several are copied, and copied back: to the stack where they have at
- *  most PERDOAZE_ON_STACK bytes together. Where they have more, GCM, CTR, RFC 3686, CBC, and authenc over the last three, go over them
- *  where they lie. -ENOMEM: RFC 4106, CCM, XTS, authenc over it, or a request that isn't taken, and malloc gave nothing for the copy. */
+ *  most PERDOAZE_ON_STACK bytes together. Where they have more, GCM, RFC 4106, CTR, RFC 3686, CBC, and authenc over the last three,
+ *  go over them where they lie. -ENOMEM: CCM, XTS, authenc over it, or a request that isn't taken, and malloc gave nothing for the copy. */
 static inline int perdoaze_encryptv_in_place(struct perdoaze *tfm, const void *iv, size_t iv_len, const void *aad, size_t aad_len,
 					     const struct iovec *buffer, size_t pieces, size_t n, size_t *written)
 {

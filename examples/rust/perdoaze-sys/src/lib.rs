@@ -449,7 +449,7 @@ impl Transform {
     }
 
     /// As [`Transform::encrypt_in_place`], where the buffer lies in pieces. Several are copied:
-    /// where they have more than 4,160 bytes together, under RFC 4106, XTS and CCM it takes memory for that (`ENOMEM`).
+    /// where they have more than 4,160 bytes together, under XTS and CCM it takes memory for that (`ENOMEM`).
     pub fn encrypt_vectored_in_place(
         &mut self,
         iv: &[u8],
@@ -475,7 +475,7 @@ impl Transform {
     }
 
     /// As [`Transform::decrypt_in_place`], where the buffer lies in pieces. Several are copied:
-    /// where they have more than 4,160 bytes together, under RFC 4106, XTS and CCM it takes memory for that (`ENOMEM`).
+    /// where they have more than 4,160 bytes together, under XTS and CCM it takes memory for that (`ENOMEM`).
     pub fn decrypt_vectored_in_place(
         &mut self,
         iv: &[u8],
