@@ -14,7 +14,6 @@ use Rattle.alg_registry.specs.declared.entry.Looked.TheVariants.{Began}
 use Rattle.alg_registry.specs.declared.entry.EndAnswer.{EndAnswer}
 use Rattle.alg_registry.specs.declared.entry.RegEntry.{RegEntry}
 use Rattle.alg_registry.specs.declared.entry.RegEntry.TheVariants.{Look, Claim, End}
-use Rattle.alg_registry.specs.declared.entry.RegEntry.TheVariants as entry
 use Rattle.alg_registry.specs.Rows.{texts, begun_by, ends, claims, end_of}
 use Rattle.alg_registry.specs.Legal.{ended_as, claimer, LegalReg}
 use Rattle.alg_registry.specs.Made.{Made, IsMade, building, looks_for, outcome, outcome_of}

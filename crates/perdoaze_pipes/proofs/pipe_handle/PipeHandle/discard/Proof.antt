@@ -12,7 +12,7 @@ use types.ByLocal.{alloc_all, pass_all, free_all, look_at, get_in, sets}
 use denote.RattleType.{owns}
 use denote.Exit.{yes}
 use denote.Laws.{Typed}
-use denote.RawPtr.{Ptr, block_ptr, null_ptr, ptr_val}
+use denote.RawPtr.{Ptr, block_ptr, null_ptr}
 use denote.Signature.{plain, types_at}
 use denote.Steps.{nothing, heard}
 use denote.Triple.Entry.{alive}

@@ -1,4 +1,4 @@
-use Rattle.std.proofs.Common.{◌≡◌, subst, sym, ◌∙◌, Some}
+use Rattle.std.proofs.Common.{◌≡◌, subst, ◌∙◌, Some}
 use Rattle.dialogues.specs.RegistryCalls.{Lists}
 use Rattle.recorded_calls.specs.RegistryCalls.{IsCaller}
 use Rattle.recorded_calls.specs.Passes.{known}

@@ -1,4 +1,4 @@
-use Rattle.std.proofs.Common.{◌≡◌, sym, ◌∙◌, Some, subst, [], ◌∷◌}
+use Rattle.std.proofs.Common.{◌≡◌, ◌∙◌, subst, [], ◌∷◌}
 use Rattle.alg_registry.specs.Legal.{HasReference}
 use Rattle.turn_lock.specs.Passes.{knows}
 use Rattle.dialogues.specs.RegistryCalls.{Puts}

@@ -1,4 +1,4 @@
-use Rattle.std.proofs.Common.{◌≡◌, sym, ◌∙◌, Some}
+use Rattle.std.proofs.Common.{◌≡◌, ◌∙◌}
 use Rattle.alg_names.specs.Name.{spelling}
 use Rattle.recorded_calls.proofs.Asking.{resolved}
 use Rattle.recorded_calls.proofs.registry_caller.RegistryCaller.resolve.Goals as goal

@@ -1,4 +1,4 @@
-use Rattle.std.proofs.Common.{◌≡◌, subst, sym, ◌∙◌, Some, is_some}
+use Rattle.std.proofs.Common.{◌≡◌, subst, ◌∙◌, is_some}
 use Rattle.dialogues.specs.RegistryCalls.{Unlists}
 use Rattle.recorded_calls.specs.RegistryCalls.{IsCaller}
 use Rattle.recorded_calls.specs.Passes.{known}
