@@ -47,8 +47,8 @@ pub record RanClients (workers clients : ℕ) (trace : Bool) (status : ℕ) (lef
   pub shut : status ≤ 1 → EndsShut b
   pub one_list : status ≤ 1 → AreOneList clients b
   pub malformed : status ≤ 1 → IfSome left (λ input. (status ≡ 1) ↔ IsTrue (has_malformed clients input))
-  -- where the source failed or gave too much no script ran, and nothing was written; where the sink failed or memory was
-  -- wanting, nothing, or a front
+  -- where the source failed or gave too much no script ran, and nothing was written; where the sink failed or memory
+  -- was wanting, nothing, or a front
   pub unrun : (status ≡ 3) ⊎ (status ≡ 6) → (r ≡ []) × (b ≡ [])
   pub unwritten : (status ≡ 3) ⊎ (status ≡ 6) → Keeps held held'
   pub front : (status ≡ 4) ⊎ (status ≡ 5) → IfSome left (λ input. GainsFrontOrNone held held' (IsOutput workers clients input r b) (traced trace r b))

@@ -1,6 +1,6 @@
 //! The end of input of the first script, when those have ended that shared its transforms.
 
-ghost use Rattle.std.specs.Prelude.{◌≡◌, [], false, MatchResult};
+ghost use Rattle.std.specs.Prelude.{◌≡◌, [], false, OnErr, MatchResult};
 ghost use Rattle.board.specs.Alone.{PeersGone};
 ghost use Rattle.board.specs.Legal.{LegalBoard};
 ghost use Rattle.turn_lock.specs.Passes.{knows};
@@ -163,6 +163,7 @@ fn end_shared<R: Wait, G: Gate>(
     ensures done { MatchResult result
         (λ _. EndsLent lives.now (known caller.old) (known caller.new) reply.old.text reply.new.text)
         (λ _. SeesBeside (known caller.old) (known caller.new)) }
+    ensures unwritten { OnErr result (reply.new.text ≡ reply.old.text) }
 {
     release_shared_all(rt, board, caller, lives)?;
     let mut answers = Vec::new(alloc);
@@ -199,7 +200,8 @@ fn leave_board<R: Wait>(
 /// transforms: held queues are let go, each pipeline is drained of what all submitted, both in order of allocation, and
 /// then the board is shut.
 ///
-/// It does what jobs there are while it waits. `Stop` comes for want of memory alone; then the board isn't shut.
+/// It does what jobs there are while it waits. `Stop` comes for want of memory alone; then the board isn't shut, and the
+/// reply is as it was.
 pub fn end_first<R: Wait, G: Gate>(
     rt: &R,
     alloc: Global,
@@ -217,6 +219,7 @@ pub fn end_first<R: Wait, G: Gate>(
     ensures done { MatchResult result.1
         (λ _. EndsFirst shared.now (knows pass) (knows result.0) reply.old.text reply.new.text)
         (λ _. StopsFirst (knows pass) (knows result.0)) }
+    ensures unwritten { OnErr result.1 (reply.new.text ≡ reply.old.text) }
 {
     only_collects_hand_out::<Ask>();
     gathered_hand_out_all();

@@ -39,4 +39,5 @@ returns g c =
       more = first-more held lives j l text text' done;
       ended = first-ended held lives j l text text' done;
       done = done;
+      unwritten = c.end_shared-held.ensures.unwritten;
     }
