@@ -7,10 +7,12 @@
  *     -ENOENT (2)     no transform has that name           -EINVAL (22)     a name, key, length, tag size or place isn't taken
  *     -ENOMEM (12)    malloc gave nothing                  -EOVERFLOW (75)  the answer has no room
  *     -EBADMSG (74)   the tag is wrong                     -ENOKEY (126)    no key was set
- * A call that fails leaves the key and the tag size as they were, and `*written` is 0.
+ * A call that fails leaves the key and the tag size as they were, and `*written` is 0. But where perdoaze_init or perdoaze_dup fails,
+ * the place that it was to fill has no transform.
  *
  * BYTES. A pointer and the number of bytes behind it. NULL is taken beside the number 0. NULL beside another number, or a number of
- * 2^63 or more, is -EINVAL. `written` may be NULL. What a call writes overlaps nothing else that it is passed.
+ * 2^63 or more, is -EINVAL. `written` may be NULL. What a call writes overlaps nothing else that it is passed, but where its comment
+ * says so.
  *
  * OWNERSHIP. `struct perdoaze` is the caller's. It begins with all bytes 0 (PERDOAZE_NONE), and these functions alone change it.
  * It may be moved, but never copied: perdoaze_dup makes a second transform under the same key. perdoaze_free frees what it holds.
@@ -53,7 +55,7 @@ struct perdoaze {
 /** The most pieces that a text may lie in. readv has the same limit. */
 #define PERDOAZE_MAX_PIECES 1024
 
-/** The most bytes that several pieces have together which are changed in their place without memory of malloc. One piece never takes any. */
+/** Several pieces of at most so many bytes together are changed in their place without memory of malloc. One piece never takes any. */
 #define PERDOAZE_ON_STACK 4160
 
 /** The most bytes of stack that a call takes. */
@@ -193,9 +195,9 @@ static inline int perdoaze_setauthsize(struct perdoaze *tfm, uint32_t authsize)
 
 /** Encrypts the first `n` bytes of `buffer` in their place. With a tag, it goes behind the ciphertext. `*written` is the number of
  *  bytes of both. -EOVERFLOW: `buffer` has fewer than these bytes. -ENOKEY. -EINVAL: the place has no transform, or that doesn't
- *  encrypt; the IV has a wrong length; there are associated bytes and no tag; the text isn't taken (CBC takes whole blocks, XTS 16
- *  bytes and more, CCM fewer than 65,536); RFC 4106's associated bytes aren't 16 or 20, CCM's aren't fewer than 65,280; or `aad` or
- *  the text has 2^32 bytes or more. Where the call fails, `buffer` is as it was. */
+ *  encrypt; the IV has a wrong length, or CCM's first byte isn't 1 to 7; there are associated bytes and no tag; the text isn't taken
+ *  (CBC takes whole blocks, XTS 16 bytes and more, CCM fewer than 65,536); RFC 4106's associated bytes aren't 16 or 20, CCM's aren't
+ *  fewer than 65,280; or `aad` or the text has 2^32 bytes or more. Where the call fails, `buffer` is as it was. */
 static inline int perdoaze_encrypt_in_place(struct perdoaze *tfm, const void *iv, size_t iv_len, const void *aad, size_t aad_len,
 					    void *buffer, size_t buffer_len, size_t n, size_t *written)
 {
@@ -251,8 +253,8 @@ static inline int perdoaze_encrypt(struct perdoaze *tfm, const void *iv, size_t 
 
 /** Decrypts `text` into `out`. With a tag, it is the last bytes of `text`. `*written` is the number of bytes of the plaintext.
  *  Errors as perdoaze_decrypt_in_place has them, but -EOVERFLOW: `out` has no room for the plaintext. `out` is other memory than
- *  `text`, or begins where `text` does. Where the call fails, `out` is as it was, or its front is 0, and it has no byte of the
- *  plaintext. */
+ *  `text`, or begins where `text` does and has `text_len` bytes at least: the text is then decrypted in its place. Where the call
+ *  fails, `out` is as it was, or its front is 0, and it has no byte of the plaintext. */
 static inline int perdoaze_decrypt(struct perdoaze *tfm, const void *iv, size_t iv_len, const void *aad, size_t aad_len,
 				   const void *text, size_t text_len, void *out, size_t out_len, size_t *written)
 {
@@ -339,7 +341,7 @@ static inline int perdoaze_encryptv(struct perdoaze *tfm, const void *iv, size_t
 				     out ? (uint8_t *)out : &none, out_len, written ? written : &unread);
 }
 
-/** As perdoaze_decrypt, of a text in pieces, PERDOAZE_MAX_PIECES at most. */
+/** As perdoaze_decrypt, of a text in pieces as perdoaze_encryptv takes them. */
 static inline int perdoaze_decryptv(struct perdoaze *tfm, const void *iv, size_t iv_len, const void *aad, size_t aad_len,
 				    const struct iovec *text, size_t pieces, void *out, size_t out_len, size_t *written)
 {
@@ -483,8 +485,8 @@ static inline int perdoaze_digestv(struct perdoaze *tfm, const struct iovec *tex
 }
 
 /** Makes a second transform, of the same driver, tag size and key, in the place `into`, in the place of the one that was there. Both
- *  share the key, and may be used by two threads at a time. -EINVAL: `from` has none, or is `into`. -ENOMEM. Where the call fails,
- *  `into` has none. */
+ *  share the key, and may be used by two threads at a time. -EINVAL: `from` has none; or both are one place or one is NULL, and nothing
+ *  happened. -ENOMEM. Where the call fails otherwise, `into` has none. */
 static inline int perdoaze_dup(struct perdoaze *from, struct perdoaze *into)
 {
 	return from && into && from != into ? perdoaze_raw_dup(from, into) : -PERDOAZE_EINVAL_;
@@ -521,8 +523,8 @@ static inline void perdoaze_free(struct perdoaze *tfm)
  * THREADS. Two calls on one pipe may not run at a time: the caller's mutex sees to that, and to a job's place within perdoaze_pipe_take and
  * perdoaze_pipe_finish. perdoaze_job_run and perdoaze_jobs_run want no lock: they use the jobs' places alone.
  *
- * NUMBERS. Requests are numbered from 0 as a pipe accepts them. A pipe accepts 2^20 requests of 2^26 bytes together, and keeps them: then it
- * answers -E2BIG. perdoaze_pipe_init begins it anew.
+ * NUMBERS. Requests are numbered from 0 as a pipe accepts them. A pipe accepts at most 2^20 requests, whose IVs, associated bytes and texts
+ * have at most 2^26 bytes together, and keeps them. Beyond that it answers -E2BIG. perdoaze_pipe_init begins it anew.
  *
  * More results: -EINPROGRESS (115), -EBUSY (16), -ENOSPC (28), -E2BIG (7). */
 
@@ -609,7 +611,7 @@ static inline int perdoaze_pipe_submit(struct perdoaze_pipe *pipe, struct perdoa
 }
 
 /** Hands a job to the worker, 1 to PERDOAZE_MAX_WORKERS. 1: there is one, in the place `job`, which had none. 0: there is none for it now.
- *  Where there is none, a request of PERDOAZE_CRYPTD_PCRYPT leaves the queue, if one may, and is the job.
+ *  Where there is none, a request of PERDOAZE_CRYPTD_PCRYPT leaves the queue, if one may: it is then a job for the pipe's workers.
  *  -EBUSY: this worker has a job of this pipe that isn't finished. -EINVAL: no worker has the number, a place has no pipe, or the
  *  other has a job. -ENOMEM. */
 static inline int perdoaze_pipe_take(struct perdoaze_pipe *pipe, uint32_t worker, struct perdoaze_job *job)
@@ -638,9 +640,9 @@ static inline int perdoaze_job_run(struct perdoaze_job *job)
 	return job ? perdoaze_raw_job_run(job) : -PERDOAZE_EINVAL_;
 }
 
-/** Does the work of each job as perdoaze_job_run does. It needs no lock, and takes no memory. Where eight in a row seal under one key by CBC, or
- *  by authenc over it, they are run side by side, which is faster. A place that has no job to be run stays as it is. -EINVAL: `jobs` is
- *  NULL, and `count` isn't 0. Each job is finished by itself. */
+/** Does the work of each job as perdoaze_job_run does. It needs no lock, and takes no memory. Eight places at a time, as they stand: where
+ *  all of their jobs seal under one key by CBC, or by authenc over it, these are run side by side, which is faster. A place that has no job
+ *  to be run stays as it is. -EINVAL: `jobs` is NULL, and `count` isn't 0. Each job is finished by itself. */
 static inline int perdoaze_jobs_run(struct perdoaze_job *jobs, size_t count)
 {
 	if (!jobs && count)
@@ -656,8 +658,8 @@ static inline int perdoaze_jobs_run(struct perdoaze_job *jobs, size_t count)
 	return 0;
 }
 
-/** Gives a job that was run back to its pipe; the place has none then. -EINVAL: it is another pipe's, wasn't run, or was finished: nothing
- *  happened then. */
+/** Gives a job that was run back to its pipe; the place has none then. -EINVAL: a place has none, or the job is another pipe's, wasn't run,
+ *  or was finished: nothing happened then. */
 static inline int perdoaze_pipe_finish(struct perdoaze_pipe *pipe, struct perdoaze_job *job)
 {
 	return pipe && job ? perdoaze_raw_pipe_finish(pipe, job) : -PERDOAZE_EINVAL_;
@@ -665,7 +667,8 @@ static inline int perdoaze_pipe_finish(struct perdoaze_pipe *pipe, struct perdoa
 
 /** The next that the pipe tells, in its order: requests are complete in the order of their numbers. 1: there is one, in `*event`, and the
  *  answer of a request that is complete in the first `event->size` bytes of `out`. 0: there is none now. -EOVERFLOW: `out` has no room for
- *  these, and the next call tells the same. -EINVAL: the place has none. -ENOMEM. PERDOAZE_STARTED comes before the request is complete. */
+ *  these; `*event` is set, and the next call tells the same. -EINVAL: the place has none. -ENOMEM. PERDOAZE_STARTED comes before the
+ *  request is complete. */
 static inline int perdoaze_pipe_poll(struct perdoaze_pipe *pipe, struct perdoaze_event *event, void *out, size_t out_len)
 {
 	uint8_t none = 0;
