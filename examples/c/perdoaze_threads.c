@@ -6,7 +6,7 @@
 #include <stdlib.h>
 #include <time.h>
 
-/* Every function here but the last five holds the crew's lock. */
+/* The functions before `work` are called under the crew's lock. */
 
 /* Room for an answer of so many bytes. */
 static bool has_room(struct perdoaze_crew *crew, size_t size)

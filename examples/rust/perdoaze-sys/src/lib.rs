@@ -448,8 +448,8 @@ impl Transform {
         Ok(n)
     }
 
-    /// As [`Transform::encrypt_in_place`], where the buffer lies in pieces. Several are copied:
-    /// where they have more than 4,160 bytes together, under XTS and CCM it takes memory for that (`ENOMEM`).
+    /// As [`Transform::encrypt_in_place`], where the buffer lies in pieces. Several of more than 4,160 bytes together are copied to
+    /// memory of the heap under XTS and CCM, and where the request isn't taken (`ENOMEM`).
     pub fn encrypt_vectored_in_place(
         &mut self,
         iv: &[u8],
@@ -474,8 +474,8 @@ impl Transform {
         Ok(written)
     }
 
-    /// As [`Transform::decrypt_in_place`], where the buffer lies in pieces. Several are copied:
-    /// where they have more than 4,160 bytes together, under XTS and CCM it takes memory for that (`ENOMEM`).
+    /// As [`Transform::decrypt_in_place`], where the buffer lies in pieces. `ENOMEM` as
+    /// [`Transform::encrypt_vectored_in_place`] has it.
     pub fn decrypt_vectored_in_place(
         &mut self,
         iv: &[u8],
