@@ -158,10 +158,10 @@ pub fn run<S: Source, K: Sink, G: Gate + Sync, R: Threads + Wait + Sync>(
     ensures clients_unwritten { AsksClients words.now → DidNotRead result → Keeps (K.held out.old) (K.held out.new) }
     ensures clients_unrun { AsksClients words.now → DidNotRead result → (result.registry ≡ []) × (result.board ≡ []) }
 
-    // 4: the sink failed. It has gained the text of the lines that stood before the last 65,536 bytes, or more. The
-    // script has made the calls of what is answered, and none besides but the shut: only of the last line, or of the
-    // end of input, may the text stand there in part. Of several scripts nothing was written, or a front; so too under
-    // 5.
+    // 4: the sink failed. It has gained the text of the lines that stood before the last 65,536 bytes read, or more.
+    // The script has made the calls of what is answered, and none besides but the shut: only of the last line, or of
+    // the end of input, may the text stand there in part. Of several scripts nothing was written, or a front; so too
+    // under 5.
     ensures write_fault { result.status ≡ 4 → Rose (K.faults out.old) (K.faults out.new) }
     ensures answered_front { OfGiven result words.now 4 (S.left src.old) (S.left src.new) (WritesFirst (K.held out.old) (K.held out.new)) }
     ensures called { OfScriptAt result words.now 4 (S.left src.old) (WritesCutOff (K.held out.old) (K.held out.new)) }

@@ -62,7 +62,7 @@ pub fn gather(pieces: &[Piece<'_>], at: usize, n: usize, into: &mut [u8])
     }
 }
 
-/// Pieces that are changed in their place are copied to the stack where they have no more bytes together.
+/// Several pieces that are changed in their place are copied to the stack where they have no more bytes together.
 pub const MOST_ON_STACK: usize = 4160;
 
 /// Whether the pieces have at most 4,160 bytes together.

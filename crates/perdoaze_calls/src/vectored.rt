@@ -234,7 +234,8 @@ impl Transform {
     }
 
     /// Encrypts the first `n` bytes of the pieces in their place, and writes the tag behind them. It takes memory for
-    /// all of them where there are several, of more than 4,160 bytes together.
+    /// all of them only where there are several, of more than 4,160 bytes together, and the mode doesn't go over pieces
+    /// or the request isn't taken.
     pub fn encrypt_pieces_within(
         &self,
         alloc: Global,
@@ -268,7 +269,8 @@ impl Transform {
     }
 
     /// Decrypts the first `n` bytes of the pieces in their place, of which the last are the tag. It takes memory for
-    /// all of them where there are several, of more than 4,160 bytes together.
+    /// all of them only where there are several, of more than 4,160 bytes together, and the mode doesn't go over pieces
+    /// or the request isn't taken.
     pub fn decrypt_pieces_within(
         &self,
         alloc: Global,

@@ -1,4 +1,4 @@
-//! What C keeps of a task: `struct perdoaze_task`.
+//! What C keeps of a task: `struct perdoaze_job`.
 
 ghost use Rattle.std.specs.Prelude.{◌≡◌, Some, None};
 ghost use Rattle.std.specs.Option.{option_map};

@@ -1,4 +1,4 @@
-//! The law of a run's trace.
+//! The laws of a run's trace.
 
 ghost use Rattle.trace_laws.specs.Clients.{ClientTracesCanBeRead};
 ghost use Rattle.trace_laws.specs.Readable.{TracesCanBeRead};

@@ -1,4 +1,4 @@
-//! The trace of a script's run can be read back.
+//! The trace of a run, of one script or of several, can be read back.
 #![tactic(auto)]
 
 mod laws;
