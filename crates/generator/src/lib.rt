@@ -1,5 +1,5 @@
-//! Numbers and bytes drawn from a seed, the same on every machine. They are for tests and measurements, and for no
-//! secret.
+//! Numbers and bytes drawn from a seed, the same on every machine: for loads, `bulk`, tests and measurements, and for
+//! no secret.
 #![tactic(auto)]
 
 mod generator;

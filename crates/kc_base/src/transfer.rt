@@ -6,13 +6,16 @@ ghost use Rattle.kc_base.specs.Streams.{AppendsFront, StopsReading, Rose};
 
 use crate::{Bytes, ReadAnswer, Sink, Source, WriteAnswer};
 use std::alloc::{AllocError, Global};
+use thiserror::Error;
 
 /// Why a piece was not taken whole, or not passed on.
-#[derive(Clone, Copy, Debug, PartialEq, Eq)]
+#[derive(Clone, Copy, Debug, PartialEq, Eq, Error)]
 pub enum SinkError {
     /// A write or a flush failed.
+    #[error("a write or a flush failed")]
     Failed,
     /// The sink lacks memory.
+    #[error("out of memory")]
     NoMemory,
 }
 
@@ -25,13 +28,16 @@ impl From<AllocError> for SinkError {
 }
 
 /// Why an input was not read whole.
-#[derive(Clone, Copy, Debug, PartialEq, Eq)]
+#[derive(Clone, Copy, Debug, PartialEq, Eq, Error)]
 pub enum InputError {
     /// A read failed.
+    #[error("a read failed")]
     Failed,
     /// Memory is wanting for what was read.
+    #[error("out of memory")]
     NoMemory,
     /// The input has more bytes than are allowed.
+    #[error("the input is too long")]
     TooLong,
 }
 

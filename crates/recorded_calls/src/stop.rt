@@ -2,11 +2,13 @@
 
 use board::BoardErr;
 use std::alloc::{AllocError, AllocFailed};
+use thiserror::Error;
 
 /// Why a session goes no further. It takes no line after this.
-#[derive(Clone, Copy, Debug, PartialEq, Eq)]
+#[derive(Clone, Copy, Debug, PartialEq, Eq, Error)]
 pub enum Stop {
     /// Memory is wanting.
+    #[error("out of memory")]
     Memory,
 }
 

@@ -6,6 +6,7 @@ ghost use Rattle.script_run.specs.declared.errors.RunError.TheVariants.{NoMemory
 
 use kc_base::{InputError, SinkError};
 use std::alloc::AllocError;
+use thiserror::Error;
 
 /// The status where the words are no command.
 pub const USAGE: u8 = 2;
@@ -14,17 +15,22 @@ pub const USAGE: u8 = 2;
 pub const NO_MEMORY: u8 = 5;
 
 /// Why a run did not reach the end.
-#[derive(Clone, Copy, Debug, PartialEq, Eq)]
+#[derive(Clone, Copy, Debug, PartialEq, Eq, Error)]
 pub enum RunError {
     /// The words are no command.
+    #[error("the words are no command")]
     Usage,
     /// A read of the source failed.
+    #[error("a read failed")]
     ReadFault,
     /// A write to the sink failed.
+    #[error("a write failed")]
     WriteFault,
     /// Memory is wanting.
+    #[error("out of memory")]
     NoMemory,
     /// The source has more bytes than may come.
+    #[error("the input is too long")]
     TooLong,
 }
 

@@ -14,14 +14,19 @@ use kc_base::Bytes;
 use memchr::memchr;
 use sg_walk::Segs;
 use std::alloc::{AllocError, AllocFailed, Global};
+use thiserror::Error;
 
 /// The most parts that a text has.
 const MOST_PARTS: usize = 16;
 
 /// Why no command was read.
-#[derive(Clone, Copy, Debug, PartialEq, Eq)]
+#[derive(Clone, Copy, Debug, PartialEq, Eq, Error)]
 pub enum ReadError {
+    /// The line is no command of the language.
+    #[error("malformed")]
     Malformed,
+    /// Memory is wanting for what the line spells.
+    #[error("out of memory")]
     NoMemory,
 }
 
