@@ -1,16 +1,11 @@
 -- two blocks side by side
-use Rattle.std.specs.Prelude.{◌≡◌, ℕ, List, [], ◌∷◌, ◌++◌, map, take, drop, length, slice_index, refl}
+use Rattle.std.specs.Prelude.{◌≡◌, ℕ, List, [], ◌∷◌, ◌++◌, map, take, drop, length, refl}
 use Rattle.std.specs.List.{range_with_len}
 use Rattle.std.proofs.Common.{subst}
 use Rattle.std.proofs.Math.Seq.{take-append_seam, drop-append_seam}
-use Rattle.std.proofs.lemmas.Simd.{pick_l_whole}
 use lib.Lanes.{pick_l}
 use Rattle.std_defs.specs.Aes.{shift_rows, inverse_shift_rows}
 use Rattle.aes_lanes.specs.Pairs.{each_half}
-
--- what holds of all vectors of 32 lanes that are read place by place
-pub of_places : (n : ℕ) (P : List ℕ → Type 0) → ((z : ℕ → ℕ) → P (map z (range_with_len 0 n))) → (x : List ℕ) → length x ≡ n → P x
-of_places n P h x long = subst P (pick_l_whole 0 x n long) (h (slice_index x))
 
 pub all_shifted : (z : ℕ → ℕ) → pick_l 0 (map z (range_with_len 0 32) ++ map z (range_with_len 0 32)) (0 ∷ 5 ∷ 10 ∷ 15 ∷ 4 ∷ 9 ∷ 14 ∷ 3 ∷ 8 ∷ 13 ∷ 2 ∷ 7 ∷ 12 ∷ 1 ∷ 6 ∷ 11 ∷ 16 ∷ 21 ∷ 26 ∷ 31 ∷ 20 ∷ 25 ∷ 30 ∷ 19 ∷ 24 ∷ 29 ∷ 18 ∷ 23 ∷ 28 ∷ 17 ∷ 22 ∷ 27 ∷ [])
     ≡ each_half shift_rows (map z (range_with_len 0 32))

@@ -10,17 +10,17 @@ use lib.Lanes.{zip2}
 use Rattle.std_defs.specs.Aes.{mul8, places, sbox, add_round_key, sub_bytes, shift_rows, mix_columns, after_rounds, key_schedule, seal}
 use Rattle.std_defs.proofs.Mul8.{mul8-xor, xor_swap}
 use Rattle.aes_block.specs.Schedule.{IsSchedule, key_of}
-use Rattle.aes_block.proofs.Rounds.{sealing_more, sealed_all, round_key_is}
-use Rattle.aes_lanes.specs.KeyBlock.{key_block}
+use Rattle.aes_block.proofs.Rounds.{sealing_more, sealed_all}
+use Rattle.aes_block.specs.KeyBlock.{key_block}
+use Rattle.aes_block.proofs.KeyBlocks.{plain_key, first_key, block_long, of_places}
 use Rattle.aes_lanes.specs.Pairs.{turned}
 use Rattle.aes_lanes.specs.RowKeys.{less_constant}
 use Rattle.aes_lanes.specs.SealingTower.{tower_byte, less_sbox, ordered}
-use Rattle.aes_lanes.proofs.Halves.{of_places, front}
+use Rattle.aes_lanes.proofs.Halves.{front}
 use Rattle.aes_lanes.proofs.Lookups.{IsVector}
 use Rattle.aes_lanes.proofs.Mixing.{mixed_lanes, mixed_block}
 use Rattle.aes_lanes.proofs.RowsMixed.{AreBytes}
 use Rattle.aes_lanes.proofs.RowsSealed.{made_row, made_bytes, keyed_block}
-use Rattle.aes_lanes.proofs.RowsUnsealed.{block_long}
 use Rattle.aes_lanes.proofs.SealingTerms.{all_added}
 use Rattle.aes_lanes.proofs.Shifted.{shift_map, shifts_long, shifts_more, shifts_map, shifts_sum, shifts_bytes}
 
@@ -98,14 +98,6 @@ keyed_state ws r = of_places 16 (λ s. zip2 bit_xor (mix_columns (shift_rows (ma
 
 pub front_key : (ws : List (List ℕ)) (r : ℕ) (x key : List ℕ) → key ≡ take 16 x → x ≡ key_block ws r ++ key_block ws r → key ≡ key_block ws r
 front_key ws r x key e h = e ∙ ap (take 16) h ∙ front (key_block ws r) (key_block ws r) (block_long ws r)
-
-plain_key : (ws : List (List ℕ)) (r : ℕ) (x : List ℕ) → length x ≡ 16 → zip2 bit_xor x (key_block ws r) ≡ add_round_key ws r x
-unfolding add_round_key key_block
-plain_key ws r = of_places 16 (λ x. zip2 bit_xor x (key_block ws r) ≡ add_round_key ws r x) (λ z. refl)
-
-first_key : (r : ℕ) (ws : List (List ℕ)) (s : List ℕ) → IsSchedule r ws → add_round_key ws 0 s ≡ after_rounds (key_schedule (key_of r ws)) s 0
-unfolding after_rounds
-first_key r ws s h = round_key_is r ws 0 s h (omega arith)
 
 pub one_begun : (r : ℕ) (ws : List (List ℕ)) (b key sum y : List ℕ) → IsSchedule r ws → length b ≡ 16 → key ≡ key_block ws 0 → sum ≡ zip2 bit_xor b key → map tower_byte y ≡ sum
     → ordered 0 y ≡ after_rounds (key_schedule (key_of r ws)) b 0

@@ -8,11 +8,11 @@ use lib.Lanes.{zip2}
 use Rattle.std_defs.specs.Aes.{mul8, places, sbox, add_round_key, shift_rows, mix_columns, after_rounds, key_schedule, seal}
 use Rattle.aes_block.specs.Schedule.{IsSchedule, key_of}
 use Rattle.aes_block.proofs.Rounds.{round_key_is, sealing_more, sealed_all}
-use Rattle.aes_lanes.specs.KeyBlock.{key_block}
+use Rattle.aes_block.specs.KeyBlock.{key_block}
+use Rattle.aes_block.proofs.KeyBlocks.{of_places}
 use Rattle.aes_lanes.specs.Pairs.{each_half, turned}
 use Rattle.aes_lanes.specs.RowKeys.{less_constant}
 use Rattle.aes_lanes.specs.SealingTower.{tower_byte, less_sbox}
-use Rattle.aes_lanes.proofs.Halves.{of_places}
 use Rattle.aes_lanes.proofs.Lookups.{IsVector}
 use Rattle.aes_lanes.proofs.Mixing.{mixed_block}
 use Rattle.aes_lanes.proofs.RowsMixed.{AreBytes}

@@ -2,8 +2,8 @@
 use Rattle.std.specs.Prelude.{◌≡◌, ℕ, ◌+◌, ◌<◌, ◌≤◌, List, [], ◌∷◌, map, length, refl}
 use Rattle.std.proofs.Common.{sym, ◌∙◌, ap, arith, get_or, set, ◌≢◌, below_more, get_or-set_other, get_or-set_same}
 use Rattle.std.proofs.lemmas.List.{get_or-map}
+use Rattle.aes_block.proofs.KeyBlocks.{of_places}
 use Rattle.aes_lanes.specs.RowKeys.{row_of, bytes_by, four_rows, StandFor}
-use Rattle.aes_lanes.proofs.Halves.{of_places}
 use Rattle.aes_lanes.specs.declared.round_keys.RoundKey.{RoundKey}
 use Rattle.aes_lanes.specs.declared.row_keys.RowKey.{RowKey}
 

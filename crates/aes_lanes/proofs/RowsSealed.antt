@@ -11,8 +11,10 @@ use Rattle.std_defs.specs.Aes.{product, remainder, mul8, mixed_byte, places, sbo
 use Rattle.std_defs.proofs.Mul8.{mul8-xor, xor_swap}
 use Rattle.std_defs.proofs.Tables.{sbox-lt}
 use Rattle.aes_block.specs.Schedule.{IsSchedule, key_of}
-use Rattle.aes_block.proofs.Rounds.{sealing_more, sealed_all, round_key_is}
-use Rattle.aes_lanes.specs.KeyBlock.{key_block}
+use Rattle.aes_block.proofs.Rounds.{sealing_more, sealed_all}
+use Rattle.aes_block.specs.KeyBlock.{key_block}
+use Rattle.aes_block.proofs.KeyBlocks.{first_key, block_long}
+use Rattle.aes_block.proofs.EquivalentInverse.{row, row-xor}
 use Rattle.aes_lanes.specs.Pairs.{each_half, blocks_of}
 use Rattle.aes_lanes.specs.Places.{columns_on}
 use Rattle.aes_lanes.specs.SealingTower.{tower_byte, less_sbox}
@@ -20,7 +22,7 @@ use Rattle.aes_lanes.specs.Rows.{block_from, eight_blocks, with_sealing_key}
 use Rattle.aes_lanes.specs.RowKeys.{row_of, four_rows, less_constant}
 use Rattle.aes_lanes.proofs.Transposed.{of_four, mapped_blocks}
 use Rattle.aes_lanes.proofs.RowsMixed.{AreBytes, mixed_row}
-use Rattle.aes_lanes.proofs.RowsUnsealed.{each_same, row, row-xor, rows_keyed, front_rows, block_long, blocks_mapped, key_long}
+use Rattle.aes_lanes.proofs.RowsUnsealed.{each_same, rows_keyed, front_rows, blocks_mapped, key_long}
 use Rattle.aes_lanes.proofs.Sides.{each_half_of_map, blocks_of_each}
 use Rattle.aes_lanes.proofs.SealingTerms.{tower_byte-lt}
 
@@ -166,10 +168,6 @@ sealed_round_of_all ws r rows =
 -- blocks after n rounds with MixColumns
 abbrev pub rounded : ℕ → List (List ℕ) → ℕ → List (List ℕ) → List (List ℕ)
 rounded r ws n blocks = map (λ b. after_rounds (key_schedule (key_of r ws)) b n) blocks
-
-first_key : (r : ℕ) (ws : List (List ℕ)) (s : List ℕ) → IsSchedule r ws → add_round_key ws 0 s ≡ after_rounds (key_schedule (key_of r ws)) s 0
-unfolding after_rounds
-first_key r ws s h = round_key_is r ws 0 s h (omega arith)
 
 pub all_begun : (r : ℕ) (ws : List (List ℕ)) (x : List (List ℕ)) (p q s t : List ℕ) (blocks : List (List ℕ)) → IsSchedule r ws → length x ≡ 4
     → map tower_byte p ≡ each_half (add_round_key ws 0) (get_or x 0 []) → map tower_byte q ≡ each_half (add_round_key ws 0) (get_or x 1 [])

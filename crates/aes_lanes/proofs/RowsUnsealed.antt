@@ -1,18 +1,19 @@
 -- rounds of eight blocks by rows, undone
-use Rattle.std.specs.Prelude.{◌≡◌, ℕ, suc, ◌+◌, ◌-◌, ◌*◌, ◌/◌, ◌%◌, ◌<◌, List, [], ◌∷◌, ◌++◌, map, length, take, drop, slice_index, slice_index_or, bit_xor, refl}
-use Rattle.std.proofs.Common.{sym, ◌∙◌, ap, ap₂, arith, subst, get_or}
+use Rattle.std.specs.Prelude.{◌≡◌, ℕ, suc, ◌-◌, ◌<◌, List, [], ◌∷◌, ◌++◌, map, length, take, drop, slice_index_or, bit_xor, refl}
+use Rattle.std.proofs.Common.{sym, ◌∙◌, ap, subst, get_or}
 use Rattle.std.proofs.lemmas.List.{take-map, drop-map, map-append}
 use Rattle.std.proofs.lemmas.Simd.{map-map, pick_l_whole}
 use lib.Lanes.{zip2}
-use Rattle.std_defs.specs.Aes.{mul8, mixed_byte, places, inverse_sbox, add_round_key, inverse_sub_bytes, inverse_shift_rows, inverse_mix_columns, before_rounds, key_schedule, unseal}
-use Rattle.std_defs.proofs.Mul8.{mul8-xor, xor_swap}
+use Rattle.std_defs.specs.Aes.{places, inverse_sbox, add_round_key, inverse_sub_bytes, inverse_shift_rows, inverse_mix_columns, before_rounds, key_schedule, unseal}
 use Rattle.aes_block.specs.Schedule.{IsSchedule, key_of}
-use Rattle.aes_block.proofs.Rounds.{unsealing_none, unsealing_more, round_key_is}
-use Rattle.aes_lanes.specs.KeyBlock.{key_block}
+use Rattle.aes_block.proofs.Rounds.{unsealing_none, unsealing_more}
+use Rattle.aes_block.specs.KeyBlock.{key_block}
+use Rattle.aes_block.proofs.KeyBlocks.{block_long, of_places, first_key_back}
+use Rattle.aes_block.proofs.EquivalentInverse.{key_behind, back_long, sub_shift}
 use Rattle.aes_lanes.specs.Pairs.{each_half, blocks_of}
 use Rattle.aes_lanes.specs.Rows.{eight_blocks, with_key}
 use Rattle.aes_lanes.specs.RowKeys.{row_of, four_rows}
-use Rattle.aes_lanes.proofs.Halves.{of_places, front}
+use Rattle.aes_lanes.proofs.Halves.{front}
 use Rattle.aes_lanes.proofs.Transposed.{of_four, mapped_blocks}
 use Rattle.aes_lanes.proofs.RowsMixed.{term_long}
 use Rattle.aes_lanes.proofs.Sides.{each_half_of_map, blocks_of_each}
@@ -38,14 +39,6 @@ rows_keyed = of_places 16 (λ m. (a b c d : List ℕ) → length a ≡ 32 → le
 pub front_rows : (l m : List ℕ) → length m ≡ 16 → four_rows (m ++ l) ≡ four_rows m
 front_rows l = of_places 16 (λ m. four_rows (m ++ l) ≡ four_rows m) (λ z. refl)
 
-pub back_long : (s : List ℕ) → length (inverse_mix_columns s) ≡ 16
-unfolding inverse_mix_columns
-back_long s = refl
-
-pub block_long : (ws : List (List ℕ)) (r : ℕ) → length (key_block ws r) ≡ 16
-unfolding key_block
-block_long ws r = refl
-
 pub rows_of_twice : (ws : List (List ℕ)) (r : ℕ) (x : List ℕ) → x ≡ key_block ws r ++ key_block ws r → four_rows (each_half inverse_mix_columns x) ≡ four_rows (inverse_mix_columns (key_block ws r))
 rows_of_twice ws r x e =
     let k : List ℕ = key_block ws r in
@@ -68,47 +61,6 @@ rows_with_key m long f g h i e a b c d ha hb hc hd =
     ∷ zip2 bit_xor (t c) (both 2 h (at 2 h refl refl) j) ∷ zip2 bit_xor (t d) (both 3 i (at 3 i refl refl) j) ∷ []))
     ∙ rows_keyed m long (t a) (t b) (t c) (t d) (term_long a ha) (term_long b hb) (term_long c hc) (term_long d hd)
     ∙ ap (map (λ s. zip2 bit_xor s m)) (sym (mapped_blocks term_byte a b c d ha hb hc hd))
-
--- ---- InvMixColumns of a sum
-
-abbrev pub row : ℕ → ℕ → ℕ → ℕ → ℕ → ℕ → ℕ → ℕ → ℕ
-row p q s t a b c d = bit_xor (bit_xor (mul8 p a) (mul8 q b)) (bit_xor (mul8 s c) (mul8 t d))
-
-pub row-xor : (p q s t a b c d e f g h : ℕ) → bit_xor (row p q s t a b c d) (row p q s t e f g h) ≡ row p q s t (bit_xor a e) (bit_xor b f) (bit_xor c g) (bit_xor d h)
-row-xor p q s t a b c d e f g h =
-    sym (ap₂ bit_xor
-    (ap₂ bit_xor (mul8-xor p a e) (mul8-xor q b f) ∙ xor_swap (mul8 p a) (mul8 p e) (mul8 q b) (mul8 q f))
-    (ap₂ bit_xor (mul8-xor s c g) (mul8-xor t d h) ∙ xor_swap (mul8 s c) (mul8 s g) (mul8 t d) (mul8 t h))
-    ∙ xor_swap (bit_xor (mul8 p a) (mul8 q b)) (bit_xor (mul8 p e) (mul8 q f)) (bit_xor (mul8 s c) (mul8 t d)) (bit_xor (mul8 s g) (mul8 t h)))
-
-pub back_of_sum : (x y : ℕ → ℕ) → zip2 bit_xor (inverse_mix_columns (map x places)) (inverse_mix_columns (map y places)) ≡ inverse_mix_columns (zip2 bit_xor (map x places) (map y places))
-unfolding mixed_byte inverse_mix_columns
-back_of_sum x y = λ j.
-    row-xor 14 11 13 9 (x 0) (x 1) (x 2) (x 3) (y 0) (y 1) (y 2) (y 3) j
-    ∷ row-xor 9 14 11 13 (x 0) (x 1) (x 2) (x 3) (y 0) (y 1) (y 2) (y 3) j
-    ∷ row-xor 13 9 14 11 (x 0) (x 1) (x 2) (x 3) (y 0) (y 1) (y 2) (y 3) j
-    ∷ row-xor 11 13 9 14 (x 0) (x 1) (x 2) (x 3) (y 0) (y 1) (y 2) (y 3) j
-    ∷ row-xor 14 11 13 9 (x 4) (x 5) (x 6) (x 7) (y 4) (y 5) (y 6) (y 7) j
-    ∷ row-xor 9 14 11 13 (x 4) (x 5) (x 6) (x 7) (y 4) (y 5) (y 6) (y 7) j
-    ∷ row-xor 13 9 14 11 (x 4) (x 5) (x 6) (x 7) (y 4) (y 5) (y 6) (y 7) j
-    ∷ row-xor 11 13 9 14 (x 4) (x 5) (x 6) (x 7) (y 4) (y 5) (y 6) (y 7) j
-    ∷ row-xor 14 11 13 9 (x 8) (x 9) (x 10) (x 11) (y 8) (y 9) (y 10) (y 11) j
-    ∷ row-xor 9 14 11 13 (x 8) (x 9) (x 10) (x 11) (y 8) (y 9) (y 10) (y 11) j
-    ∷ row-xor 13 9 14 11 (x 8) (x 9) (x 10) (x 11) (y 8) (y 9) (y 10) (y 11) j
-    ∷ row-xor 11 13 9 14 (x 8) (x 9) (x 10) (x 11) (y 8) (y 9) (y 10) (y 11) j
-    ∷ row-xor 14 11 13 9 (x 12) (x 13) (x 14) (x 15) (y 12) (y 13) (y 14) (y 15) j
-    ∷ row-xor 9 14 11 13 (x 12) (x 13) (x 14) (x 15) (y 12) (y 13) (y 14) (y 15) j
-    ∷ row-xor 13 9 14 11 (x 12) (x 13) (x 14) (x 15) (y 12) (y 13) (y 14) (y 15) j
-    ∷ row-xor 11 13 9 14 (x 12) (x 13) (x 14) (x 15) (y 12) (y 13) (y 14) (y 15) j ∷ []
-
-abbrev pub sub_shift : List ℕ → List ℕ
-sub_shift s = inverse_sub_bytes (inverse_shift_rows s)
-
--- a key after InvMixColumns is added behind it as the key before it
-pub key_behind : (ws : List (List ℕ)) (r : ℕ) (b : List ℕ) → zip2 bit_xor (inverse_mix_columns (sub_shift b)) (inverse_mix_columns (key_block ws r)) ≡ inverse_mix_columns (add_round_key ws r (sub_shift b))
-unfolding inverse_shift_rows add_round_key key_block
-key_behind ws r b =
-    back_of_sum (λ i. inverse_sbox (slice_index b ((i + 12 * (i % 4)) % 16))) (λ i. slice_index (slice_index_or ws (4 * r + i / 4) []) (i % 4))
 
 -- ---- a round of all blocks
 
@@ -162,10 +114,6 @@ round_more r ws i n x before after h next below done e =
     ∙ each_same (λ b. before_rounds k (sub_shift (one b)) n) (λ b. before_rounds k (sub_shift b) i) (λ b. unsealing_more r ws (sub_shift b) i n h next below) before
     ∙ done
 
-first_key : (r : ℕ) (ws : List (List ℕ)) (s : List ℕ) → IsSchedule r ws → add_round_key ws 0 s ≡ before_rounds (key_schedule (key_of r ws)) s 0
-unfolding before_rounds
-first_key r ws s h = round_key_is r ws 0 s h (omega arith)
-
 -- the bytes behind the last round
 abbrev out : ℕ → ℕ
 out y = inverse_sbox (state_byte y)
@@ -187,5 +135,5 @@ all_left r ws n x y p q s t blocks shifted h at long ep eq es et e shift done =
     ∙ sym (map-map (λ s. a (inverse_sub_bytes s)) (map state_byte) shifted)
     ∙ ap (map (λ s. a (inverse_sub_bytes s))) shift
     ∙ map-map (λ s. a (inverse_sub_bytes s)) inverse_shift_rows blocks
-    ∙ each_same (λ b. a (sub_shift b)) (λ b. before_rounds k (sub_shift b) 0) (λ b. first_key r ws (sub_shift b) h) blocks
+    ∙ each_same (λ b. a (sub_shift b)) (λ b. before_rounds k (sub_shift b) 0) (λ b. first_key_back r ws (sub_shift b) h) blocks
     ∙ subst (λ (m : ℕ). unrounded r ws m blocks ≡ map (unseal (key_of r ws)) x) at done

@@ -6,11 +6,11 @@ use Rattle.std.proofs.lemmas.List.{length-map, get_or-map}
 use lib.Lanes.{zip2}
 use Rattle.std_defs.specs.Aes.{places, shift_rows}
 use Rattle.std_defs.proofs.Enumerate.{same_below}
+use Rattle.aes_block.proofs.KeyBlocks.{of_places}
 use Rattle.aes_lanes.specs.Lookup.{look}
 use Rattle.aes_lanes.specs.Pairs.{turned}
 use Rattle.aes_lanes.specs.SealingTower.{tower_byte, ordered}
 use Rattle.aes_lanes.specs.declared.one_block.TheConstants.{SHIFTED, ONE_ON, THREE_ON}
-use Rattle.aes_lanes.proofs.Halves.{of_places}
 use Rattle.aes_lanes.proofs.Mixing.{places_below}
 use Rattle.aes_lanes.proofs.RowsMixed.{AreBytes}
 

@@ -9,8 +9,9 @@ use Rattle.std_defs.specs.Aes.{add_round_key, sub_bytes, shift_rows, mix_columns
 use Rattle.aes_block.specs.Schedule.{IsSchedule, key_of}
 use Rattle.aes_block.proofs.Rounds.{round_key_is, unsealing_none, unsealing_more}
 use Rattle.aes_lanes.specs.Pairs.{each_half, blocks_of}
-use Rattle.aes_lanes.specs.KeyBlock.{key_block}
-use Rattle.aes_lanes.proofs.Halves.{of_places, front, back}
+use Rattle.aes_block.specs.KeyBlock.{key_block}
+use Rattle.aes_block.proofs.KeyBlocks.{of_places}
+use Rattle.aes_lanes.proofs.Halves.{front, back}
 
 -- ---- one step after another
 

@@ -1,10 +1,10 @@
 -- eight blocks by rows and in pairs
 use Rattle.std.specs.Prelude.{◌≡◌, ℕ, List, [], ◌∷◌, map, length, refl}
 use Rattle.std_defs.specs.Aes.{inverse_shift_rows}
+use Rattle.aes_block.proofs.KeyBlocks.{of_places}
 use Rattle.aes_lanes.specs.Pairs.{blocks_of}
 use Rattle.aes_lanes.specs.Places.{lanes, by_rows, low_words, high_words, low_quads, high_quads, columns_on}
 use Rattle.aes_lanes.specs.Rows.{eight_blocks}
-use Rattle.aes_lanes.proofs.Halves.{of_places}
 
 -- what holds of all rows that are read place by place
 pub of_four : (P : List ℕ → List ℕ → List ℕ → List ℕ → Type 0) → ((w x y z : ℕ → ℕ) → P (map w lanes) (map x lanes) (map y lanes) (map z lanes))

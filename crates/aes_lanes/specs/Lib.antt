@@ -1,6 +1,5 @@
 pub mod Lookup
 pub mod Pairs
-pub mod KeyBlock
 pub mod RoundKeys
 pub mod Key
 pub mod Tower

@@ -1,7 +1,7 @@
 //! Round keys in vectors.
 
 ghost use Rattle.std.specs.Prelude.{◌≡◌, ◌<◌, ◌++◌};
-ghost use Rattle.aes_lanes.specs.KeyBlock.{key_block, sixty_words};
+ghost use Rattle.aes_block.specs.KeyBlock.{key_block, sixty_words};
 ghost use Rattle.aes_lanes.specs.RoundKeys.{schedule_of, AreTwice};
 
 use crate::pairs::joined;

@@ -1,9 +1,10 @@
 use Rattle.std.specs.Prelude.{◌≡◌, ◌++◌}
 use lib.Lanes.{pick_l}
 use Rattle.std_defs.specs.Aes.{shift_rows}
+use Rattle.aes_block.proofs.KeyBlocks.{of_places}
 use Rattle.aes_lanes.specs.Pairs.{each_half}
 use Rattle.aes_lanes.specs.declared.columns.TheConstants.{SHIFTED}
-use Rattle.aes_lanes.proofs.Halves.{of_places, all_shifted}
+use Rattle.aes_lanes.proofs.Halves.{all_shifted}
 use Rattle.aes_lanes.proofs.columns.shifted.Goals as goal
 
 pub returns : goal.returns

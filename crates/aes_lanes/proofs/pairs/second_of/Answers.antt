@@ -1,7 +1,8 @@
 use Rattle.std.specs.Prelude.{◌≡◌, ◌++◌, drop}
 use lib.Lanes.{pick_l}
+use Rattle.aes_block.proofs.KeyBlocks.{of_places}
 use Rattle.aes_lanes.specs.declared.pairs.TheConstants.{SECOND}
-use Rattle.aes_lanes.proofs.Halves.{of_places, dropped_places}
+use Rattle.aes_lanes.proofs.Halves.{dropped_places}
 use Rattle.aes_lanes.proofs.pairs.second_of.Goals as goal
 
 pub returns : goal.returns

@@ -1,6 +1,6 @@
 use Rattle.std.specs.Prelude.{◌∷◌, [], ◌+◌, ◌*◌, ℕ, List, slice_index_or, slice_index}
 use Rattle.std.proofs.Common.{ap, sym, add-zero}
-use Rattle.aes_lanes.specs.KeyBlock.{key_block}
+use Rattle.aes_block.specs.KeyBlock.{key_block}
 use Rattle.aes_lanes.proofs.round_keys.round_key.Goals as goal
 
 pub returns : goal.returns

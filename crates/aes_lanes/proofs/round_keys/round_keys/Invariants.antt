@@ -1,5 +1,5 @@
 use Rattle.std.proofs.Common.{◌≡◌, ◌<◌, ◌++◌, ℕ, length, get_or}
-use Rattle.aes_lanes.specs.KeyBlock.{key_block}
+use Rattle.aes_block.specs.KeyBlock.{key_block}
 use Rattle.aes_lanes.specs.declared.round_keys.RoundKey.{RoundKey}
 use Rattle.aes_lanes.proofs.round_keys.round_keys.Given as goal
 

@@ -1,8 +1,8 @@
 use Rattle.std.specs.Prelude.{◌≡◌, ◌++◌, refl}
 use lib.Lanes.{pick_l}
+use Rattle.aes_block.proofs.KeyBlocks.{of_places}
 use Rattle.aes_lanes.specs.RowKeys.{row_of}
 use Rattle.aes_lanes.specs.declared.row_keys.TheConstants.{FOURTH}
-use Rattle.aes_lanes.proofs.Halves.{of_places}
 use Rattle.aes_lanes.proofs.row_keys.fourth_row.Goals as goal
 
 pub returns : goal.returns

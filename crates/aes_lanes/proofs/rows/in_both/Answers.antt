@@ -1,7 +1,7 @@
 use Rattle.std.specs.Prelude.{◌≡◌, ◌++◌, refl}
 use lib.Lanes.{pick_l}
+use Rattle.aes_block.proofs.KeyBlocks.{of_places}
 use Rattle.aes_lanes.specs.declared.rows.TheConstants.{BOTH_HALVES}
-use Rattle.aes_lanes.proofs.Halves.{of_places}
 use Rattle.aes_lanes.proofs.rows.in_both.Goals as goal
 
 pub returns : goal.returns

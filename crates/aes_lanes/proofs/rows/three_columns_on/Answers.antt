@@ -1,8 +1,8 @@
 use Rattle.std.specs.Prelude.{◌≡◌, ◌++◌, refl}
 use lib.Lanes.{pick_l}
+use Rattle.aes_block.proofs.KeyBlocks.{of_places}
 use Rattle.aes_lanes.specs.Places.{columns_on}
 use Rattle.aes_lanes.specs.declared.rows.TheConstants.{THREE_COLUMNS}
-use Rattle.aes_lanes.proofs.Halves.{of_places}
 use Rattle.aes_lanes.proofs.rows.three_columns_on.Goals as goal
 
 pub returns : goal.returns

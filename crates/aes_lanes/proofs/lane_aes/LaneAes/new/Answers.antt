@@ -4,8 +4,8 @@ use Rattle.std.proofs.lemmas.List.{get_or_default}
 use Rattle.std_defs.specs.Aes.{IsKeyLength, key_words, rounds, words}
 use Rattle.aes_block.specs.Schedule.{IsSchedule, key_of}
 use Rattle.aes_block.proofs.Rounds.{key_is, is_schedule}
-use Rattle.aes_lanes.specs.KeyBlock.{sixty_words}
-use Rattle.aes_lanes.proofs.KeyVectors.{front_is}
+use Rattle.aes_block.specs.KeyBlock.{sixty_words}
+use Rattle.aes_block.proofs.KeyBlocks.{front_is}
 use Rattle.aes_lanes.proofs.lane_aes.LaneAes.new.Goals as goal
 
 few : (n : ℕ) → IsKeyLength n → n / 4 + 6 + 1 ≤ 15

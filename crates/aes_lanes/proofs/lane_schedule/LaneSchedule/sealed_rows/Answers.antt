@@ -4,12 +4,12 @@ use Rattle.std.proofs.lemmas.List.{get_or-map, length-map}
 use lib.Lanes.{zip2}
 use Rattle.std_defs.specs.Aes.{mix_columns}
 use Rattle.aes_block.proofs.Rounds.{at_most_fourteen}
-use Rattle.aes_lanes.specs.KeyBlock.{key_block}
+use Rattle.aes_block.specs.KeyBlock.{key_block}
+use Rattle.aes_block.proofs.KeyBlocks.{block_long}
 use Rattle.aes_lanes.specs.SealingTower.{tower_byte, less_sbox}
 use Rattle.aes_lanes.specs.RoundKeys.{schedule_of, vectors_of}
 use Rattle.aes_lanes.specs.RowKeys.{bytes_by, four_rows, less_constant}
 use Rattle.aes_lanes.specs.declared.row_keys.RowKey.{RowKey}
-use Rattle.aes_lanes.proofs.RowsUnsealed.{block_long}
 use Rattle.aes_lanes.proofs.RowsSealed.{rows_of_sealing_key, rows_with_sealing_key, sealed_round_of_all}
 use Rattle.aes_lanes.proofs.lane_schedule.LaneSchedule.sealed_rows.Goals as goal
 

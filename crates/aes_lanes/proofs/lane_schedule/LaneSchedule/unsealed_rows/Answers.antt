@@ -4,13 +4,14 @@ use Rattle.std.proofs.lemmas.List.{get_or-map}
 use lib.Lanes.{zip2}
 use Rattle.std_defs.specs.Aes.{inverse_mix_columns, inverse_sub_bytes}
 use Rattle.aes_block.proofs.Rounds.{at_most_fourteen}
-use Rattle.aes_lanes.specs.KeyBlock.{key_block}
+use Rattle.aes_block.specs.KeyBlock.{key_block}
+use Rattle.aes_block.proofs.EquivalentInverse.{back_long}
 use Rattle.aes_lanes.specs.Rows.{state_blocks}
 use Rattle.aes_lanes.specs.Tower.{state_byte}
 use Rattle.aes_lanes.specs.RoundKeys.{schedule_of, vectors_of}
 use Rattle.aes_lanes.specs.RowKeys.{bytes_by, four_rows}
 use Rattle.aes_lanes.specs.declared.row_keys.RowKey.{RowKey}
-use Rattle.aes_lanes.proofs.RowsUnsealed.{back_long, rows_of_twice, rows_with_key, round_of_all}
+use Rattle.aes_lanes.proofs.RowsUnsealed.{rows_of_twice, rows_with_key, round_of_all}
 use Rattle.aes_lanes.proofs.lane_schedule.LaneSchedule.unsealed_rows.Goals as goal
 
 pub returns : goal.returns

@@ -10,3 +10,8 @@ key_block ws r = map (λ i. slice_index (slice_index_or ws (4 * r + i / 4) []) (
 -- the sixty words, byte by byte
 unfoldable pub sixty_words : List (List ℕ) → List (List ℕ)
 sixty_words ws = map (λ n. map (λ i. slice_index (slice_index_or ws n []) i) (range_with_len 0 4)) (range_with_len 0 60)
+
+-- the words of the schedule whose round keys begin fifteen vectors
+unfoldable pub words_in : List (List ℕ) → List (List ℕ)
+words_in vectors =
+    map (λ n. map (λ i. slice_index (slice_index_or vectors (n / 4) []) (4 * (n % 4) + i)) (range_with_len 0 4)) (range_with_len 0 60)
