@@ -1,7 +1,6 @@
 -- Vectors of two halves of 64 bits, and their numbers.
-use Rattle.std.proofs.Common.{◌≡◌, ℕ, zero, suc, ◌+◌, ◌*◌, ◌/◌, ◌%◌, ◌^◌, ◌<◌, bit_xor, sym, ap, ap₂, ◌∙◌, arith, List, [], ◌∷◌, ◌++◌, map, length, drop, get_or, slice_index, w64, Fits, subst}
-use Rattle.std.specs.Int.Bits.{xor_lt}
-use Rattle.std.proofs.lemmas.Nat.{xor_block, pow-add, shl_below}
+use Rattle.std.proofs.Common.{◌≡◌, ℕ, zero, ◌+◌, ◌*◌, ◌/◌, ◌%◌, ◌^◌, ◌<◌, bit_xor, sym, ap₂, ◌∙◌, arith, List, [], ◌∷◌, ◌++◌, map, length, drop, get_or, slice_index, w64, Fits, subst}
+use Rattle.std.proofs.lemmas.Nat.{xor_block}
 use Rattle.std.proofs.lemmas.Simd.{get_or-zip2, Each1-get_or}
 use Rattle.std.specs.List.{range_with_len}
 use Rattle.std.proofs.lemmas.List.{get_or_append_left}
@@ -11,8 +10,6 @@ use Rattle.std_defs.proofs.FieldBytes.{block_number-lt}
 use Rattle.ghash_field.proofs.MovedOn.{AreSmall, small_take}
 use Rattle.ghash_field.proofs.LaneRows.{of_places}
 use lib.Lanes.{zip2, Each1, number_l, digits_l, pick_l}
-use Rattle.std.specs.Int.{bit_at}
-use Rattle.std_defs.specs.Aes.{product}
 use Rattle.ghash_clmul.specs.Wide.{number}
 
 abbrev pub IsVector : List ℕ → Type 0
@@ -49,23 +46,6 @@ number-xor x y hx hy =
 -- the vector of a number
 pub number-halves : (n : ℕ) → n % 2 ^ 64 + n / 2 ^ 64 * 2 ^ 64 ≡ n
 number-halves n = omega arith
-
--- the product of two halves is below 2^128
-pub product-lt : (x y n : ℕ) → x < 2 ^ 64 → product x y n < 2 ^ (64 + n)
-unfolding product
-product-lt x y zero h = let p : 0 < 2 ^ (64 + 0) = omega arith in p
-product-lt x y (suc n) h =
-    let up : 2 ^ (64 + suc n) ≡ 2 ^ (64 + n) * 2 = ap (λ (t : ℕ). 2 ^ t) (let e : 64 + suc n ≡ 64 + n + 1 = omega arith in e) ∙ pow-add 2 (64 + n) 1 in
-    let sum : bit_xor (product x y n) (bit_at y n * (x * 2 ^ n)) < 2 ^ (64 + n) = xor_lt (64 + n) (product x y n) (bit_at y n * (x * 2 ^ n)) (product-lt x y n h) (term (bit_at y n) (omega arith)) in
-    omega arith
-  where
-    last : x * 2 ^ n < 2 ^ (64 + n)
-    last = shl_below x 64 n h
-
-    term : (b : ℕ) → b < 2 → b * (x * 2 ^ n) < 2 ^ (64 + n)
-    term zero small = omega (arith, last)
-    term (suc zero) small = omega (arith, last)
-    term (suc (suc b)) small = absurd (omega arith)
 
 -- the halves of a vector, changed
 pub number-swapped : (x : List ℕ) → IsVector x → number (slice_index (x ++ x) 1 ∷ slice_index (x ++ x) 0 ∷ []) ≡ slice_index x 1 + slice_index x 0 * 2 ^ 64
