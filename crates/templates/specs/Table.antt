@@ -19,23 +19,7 @@ use Rattle.templates.specs.declared.build_errors.BuildErr.{BuildErr}
 use Rattle.templates.specs.declared.build_errors.BuildErr.TheVariants.{Fault, Memory}
 use Rattle.alg_names.specs.Spelled.{tree_of}
 use Rattle.templates.specs.Nesting.{is_nested_well}
-
--- the template of a word
-unfoldable pub template_named : List ℕ → Option Template
-template_named word =
-    if bytes_eq word (codes "cbc") then Some Cbc else
-    (if bytes_eq word (codes "ctr") then Some Ctr else
-    (if bytes_eq word (codes "rfc3686") then Some Rfc3686 else
-    (if bytes_eq word (codes "xts") then Some Xts else
-    (if bytes_eq word (codes "gcm") then Some Gcm else
-    (if bytes_eq word (codes "gcm_base") then Some GcmBase else
-    (if bytes_eq word (codes "rfc4106") then Some Rfc4106 else
-    (if bytes_eq word (codes "ccm") then Some Ccm else
-    (if bytes_eq word (codes "hmac") then Some Hmac else
-    (if bytes_eq word (codes "cmac") then Some Cmac else
-    (if bytes_eq word (codes "authenc") then Some Authenc else
-    (if bytes_eq word (codes "pcrypt") then Some Pcrypt else
-    (if bytes_eq word (codes "cryptd") then Some Cryptd else None))))))))))))
+use Rattle.templates.specs.Words.{template_named}
 
 -- `cryptd` over `pcrypt` alone is a template of its own, which no word names
 abbrev pub over_pcrypt : Template → List Tree → Template
