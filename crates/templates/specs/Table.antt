@@ -35,23 +35,31 @@ abbrev pub only_one : List Tree → Result (List Tree) Errno
 only_one (x ∷ []) = Ok (x ∷ [])
 only_one names = Err EINVAL
 
+-- the names that a template asks for: its one argument, its two, the parts of which its one makes an instance, or what
+-- stands within its one
+pub data Arity : Type 0 where
+  One : Arity
+  Two : Arity
+  Parts : Arity
+  Within : Arity
+
+abbrev pub arity : Template → Arity
+arity Gcm = Parts
+arity GcmBase = Two
+arity Authenc = Two
+arity CryptdPcrypt = Within
+arity _ = One
+
+abbrev pub asked_as : Arity → List Tree → Result (List Tree) Errno
+asked_as One (x ∷ []) = Ok (x ∷ [])
+asked_as Two (x ∷ y ∷ []) = Ok (x ∷ y ∷ [])
+asked_as Parts (x ∷ []) = Ok (node (codes "ctr") (arg x end) ∷ node (codes "ghash") end ∷ [])
+asked_as Within (x ∷ []) = only_one (args_of x)
+asked_as _ args = Err EINVAL
+
 -- the names that the template asks for, over its arguments
 abbrev pub asked : Template → List Tree → Result (List Tree) Errno
-asked Cbc (x ∷ []) = Ok (x ∷ [])
-asked Ctr (x ∷ []) = Ok (x ∷ [])
-asked Rfc3686 (x ∷ []) = Ok (x ∷ [])
-asked Xts (x ∷ []) = Ok (x ∷ [])
-asked Gcm (x ∷ []) = Ok (node (codes "ctr") (arg x end) ∷ node (codes "ghash") end ∷ [])
-asked GcmBase (c ∷ g ∷ []) = Ok (c ∷ g ∷ [])
-asked Rfc4106 (x ∷ []) = Ok (x ∷ [])
-asked Ccm (x ∷ []) = Ok (x ∷ [])
-asked Hmac (x ∷ []) = Ok (x ∷ [])
-asked Cmac (x ∷ []) = Ok (x ∷ [])
-asked Authenc (a ∷ e ∷ []) = Ok (a ∷ e ∷ [])
-asked Pcrypt (x ∷ []) = Ok (x ∷ [])
-asked Cryptd (x ∷ []) = Ok (x ∷ [])
-asked CryptdPcrypt (x ∷ []) = only_one (args_of x)
-asked template args = Err EINVAL
+asked template args = asked_as (arity template) args
 
 abbrev pub asked_by : Option Template → List Tree → Result (List Tree) Errno
 asked_by None args = Err ENOENT
