@@ -92,7 +92,7 @@ impl Mac {
 
     /// The MAC of what the inner hasher has taken behind its block.
     #[tactic(auto, unfolding(std_defs::specs::Hmac::hmac_under))]
-    fn finish(&self, inner: Sha256) -> [u8; 32]
+    pub(crate) fn finish(&self, inner: Sha256) -> [u8; 32]
         ensures { (message : List ℕ) → HasAbsorbed inner (xor_pad 0x36 self.now ++ message) → result ≡ hmac_under self.now message }
     {
         let digest = inner.finalize();
