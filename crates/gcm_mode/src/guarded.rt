@@ -11,19 +11,25 @@ use crate::stream::{GcmBegun, GcmText};
 use aes_block::{BlockCipher, tags_differ};
 use ghash_field::GhashKey;
 use std::mem::replace;
+use thiserror::Error;
 
 /// Why a stream refuses.
-#[derive(Clone, Copy, Debug, PartialEq, Eq)]
+#[derive(Clone, Copy, Debug, PartialEq, Eq, Error)]
 pub enum Refusal {
     /// It has ended, by its tag or by another refusal.
+    #[error("the stream has ended")]
     Ended,
     /// Its text has begun: associated bytes come too late.
+    #[error("associated bytes behind the first of the text")]
     TooLate,
     /// More than 2^36 - 32 bytes of text would have come, or 2^61 associated bytes (5.2.1.1).
+    #[error("more bytes than GCM takes")]
     TooLong,
     /// A tag has 4, 8, or 12 to 16 bytes.
+    #[error("a tag of GCM has 4, 8, or 12 to 16 bytes")]
     TagLength,
     /// The tag is wrong.
+    #[error("the tag is wrong")]
     WrongTag,
 }
 

@@ -6,4 +6,4 @@ use Rattle.hmac_sha.specs.declared.stream.Message.{Message}
 
 -- under the key's block, these bytes came
 abbrev pub Takes : List ℕ → List ℕ → Message → Type 0
-Takes key m s = HasAbsorbed s.inner (xor_pad 0x36 key ++ m)
+Takes key m s = HasAbsorbed s.inner (xor_pad 0x36 key ++ m) × HasAbsorbed s.outer (xor_pad 0x5c key)

@@ -4,14 +4,15 @@ ghost use Rattle.std.specs.Prelude.{◌≡◌, ◌++◌, ℕ, List, []};
 ghost use Rattle.std_defs.specs.Hmac.{hmac_under};
 ghost use Rattle.hmac_sha.specs.Streams.{Takes};
 
-use crate::mac::Mac;
+use crate::mac::{Mac, outer_digest};
 use sha_lanes::Sha256;
 use sha2::Digest;
 
-/// A message on its way to its MAC.
+/// A message on its way to its MAC. It has all that it needs of the key.
 #[derive(Drop)]
 pub struct Message {
     inner: Sha256,
+    outer: Sha256,
 }
 
 impl Message {
@@ -22,12 +23,20 @@ impl Message {
         self.inner.update(bytes);
     }
 
+    /// The whole MAC, of 32 bytes, of what came.
+    pub fn mac(&self) -> [u8; 32]
+        ensures { (key m : List ℕ) → Takes key m self.now → result ≡ hmac_under key m }
+    {
+        outer_digest(&self.outer, self.inner.clone().unwrap())
+    }
+
     /// A second message that has come as far.
     pub fn copy(&self) -> Message
         ensures { (key m : List ℕ) → Takes key m self.now → Takes key m result }
     {
         Message {
             inner: self.inner.clone().unwrap(),
+            outer: self.outer.clone().unwrap(),
         }
     }
 }
@@ -39,13 +48,7 @@ impl Mac {
     {
         Message {
             inner: self.inner.clone().unwrap(),
+            outer: self.outer.clone().unwrap(),
         }
-    }
-
-    /// The whole MAC, of 32 bytes, of a message that was begun under this key.
-    pub fn end(&self, message: Message) -> [u8; 32]
-        ensures { (m : List ℕ) → Takes self.now m message → result ≡ hmac_under self.now m }
-    {
-        self.finish(message.inner)
     }
 }
