@@ -16,3 +16,4 @@ pub mod SharedTransforms
 pub mod Loans
 pub mod SharedEnd
 pub mod BrokenOff
+pub mod BasicDrivers

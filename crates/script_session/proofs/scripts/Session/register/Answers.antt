@@ -23,7 +23,7 @@ returns-then-priority-gt-MOST_PRIORITY g c =
     (stops-none _ c.args.self.now c.requires.state.stands)
 
 pub enlist-requires-clause-driver : goal.enlist-requires-clause-driver
-enlist-requires-clause-driver g c = (known-driver c.as_slice.result.now c.args.priority c.in-Some.spec (sym c.in_ok-spec.ensures ∙ c.in-Some.is)).listed
+enlist-requires-clause-driver g c = known-driver c.as_slice.result.now c.args.priority c.in-Some.spec (sym c.in_ok-spec.ensures ∙ c.in-Some.is)
 
 pub returns : goal.returns
 returns g c =
