@@ -1,13 +1,12 @@
 -- Vectors of two halves of 64 bits, and their numbers.
-use Rattle.std.proofs.Common.{◌≡◌, ℕ, zero, ◌+◌, ◌*◌, ◌/◌, ◌%◌, ◌^◌, ◌<◌, bit_xor, sym, ap₂, ◌∙◌, arith, List, [], ◌∷◌, ◌++◌, map, length, drop, get_or, slice_index, w64, Fits, subst}
+use Rattle.std.proofs.Common.{◌≡◌, ℕ, ◌+◌, ◌*◌, ◌/◌, ◌%◌, ◌^◌, ◌<◌, bit_xor, sym, ap₂, ◌∙◌, arith, List, [], ◌∷◌, ◌++◌, map, length, slice_index, w64, Fits, subst}
 use Rattle.std.proofs.lemmas.Nat.{xor_block}
 use Rattle.std.proofs.lemmas.Simd.{get_or-zip2, Each1-get_or}
 use Rattle.std.specs.List.{range_with_len}
 use Rattle.std.proofs.lemmas.List.{get_or_append_left}
-use Rattle.std.proofs.lemmas.Grind.{common_steps}
-use Rattle.std_defs.specs.Blocks.{block_number, text_block}
+use Rattle.std_defs.specs.Blocks.{block_number}
 use Rattle.std_defs.proofs.FieldBytes.{block_number-lt}
-use Rattle.ghash_field.proofs.MovedOn.{AreSmall, small_take}
+use Rattle.ghash_field.proofs.MovedOn.{AreSmall}
 use Rattle.ghash_field.proofs.LaneRows.{of_places}
 use lib.Lanes.{zip2, Each1, number_l, digits_l, pick_l}
 use Rattle.ghash_clmul.specs.Wide.{number}
@@ -72,10 +71,3 @@ number-bytes x long small =
     (subst (λ (t : ℕ). t < 2 ^ 128) (sym (as_number z)) (block_number-lt (map z (range_with_len 0 16)) small))
     ∙ as_number z)
     x long small
-
-drop_at : (n i : ℕ) (xs : List ℕ) → get_or (drop n xs) i zero ≡ get_or xs (n + i) zero
-drop_at n i xs = grind (arith, common_steps)
-
-pub block-lt : (text : List ℕ) (j : ℕ) → AreSmall text → block_number (text_block text j) < 2 ^ 128
-unfolding text_block
-block-lt text j small = block_number-lt (text_block text j) (small_take 16 (drop (16 * j) text) (λ i. rw (drop_at (16 * j) i text) (small (16 * j + i))))

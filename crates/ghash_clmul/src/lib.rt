@@ -3,6 +3,7 @@
 
 mod clmul_ghash;
 mod lanes;
+mod power;
 mod wide;
 
 pub use clmul_ghash::ClmulGhash;
