@@ -52,7 +52,7 @@ impl RunQueue {
         self.members.is_empty()
     }
 
-    /// From now on the pipeline is a member. A new one doesn't are queued. Want of memory changes nothing.
+    /// From now on the pipeline is a member. A new member isn't queued. Want of memory changes nothing.
     pub(crate) fn join(&mut self, pipe: u64) -> Result<(), AllocError>
         ensures kept { Keeps self.old self.new }
         ensures joined { OnOk result (IsMember self.new pipe) }

@@ -3,3 +3,4 @@ pub mod Fields
 pub mod Associated
 pub mod Opened
 pub mod LastBlock
+pub mod Streamed

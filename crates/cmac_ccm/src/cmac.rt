@@ -72,7 +72,7 @@ impl<C: BlockCipher + Drop> Cmac<C> {
     }
 
     /// The last block, made whole and added to its subkey (6.2, step 4).
-    fn last_block(&self, bytes: &[u8]) -> [u8; 16]
+    pub(crate) fn last_block(&self, bytes: &[u8]) -> [u8; 16]
         requires { length bytes.now ≤ 16 }
         ensures { result ≡ cmac_last (C.sealed self.now) bytes.now }
     {

@@ -6,6 +6,8 @@ mod chain;
 mod cmac;
 mod formatting;
 pub mod laws;
+mod stream;
 
 pub use ccm::{Ccm, takes_ccm_tag};
 pub use cmac::Cmac;
+pub use stream::Message;

@@ -19,7 +19,8 @@ use Rattle.turn_lock.specs.PassLaws.{AtTurn, Enters, Leaves}
 use Rattle.shared_registry.specs.Faithful.{IsFaithful}
 use Rattle.shared_registry.specs.Passes.{EntersIf}
 use Rattle.alg_names.specs.Spelled.{tree_of}
-use Rattle.templates.specs.Table.{table, template_named}
+use Rattle.templates.specs.Table.{table}
+use Rattle.templates.specs.Words.{template_named}
 
 -- `cbc(aes)` is a name
 abbrev pub cbc_aes : List ℕ

@@ -1,2 +1,3 @@
-pub mod CtrText
+pub mod WholeText
 pub mod Pieces
+pub mod Growing

@@ -63,6 +63,29 @@ impl<B: CounterBlocks> KeyStream<B> {
         }
     }
 
+    /// The stream of a row of counter blocks, of the first of which `used` bytes are used.
+    pub fn resume(counters: B, used: usize) -> KeyStream<B>
+        requires { used < 16 }
+        ensures { result ≡ (counters, used) }
+    {
+        KeyStream { counters, used }
+    }
+
+    /// The counter blocks from that of the next byte on.
+    pub fn counters(&self) -> &B
+        ensures { result.now ≡ self.now.0 }
+    {
+        &self.counters
+    }
+
+    /// How many bytes of the first counter block are used.
+    pub fn used(&self) -> usize
+        ensures used { result ≡ self.now.1 }
+        ensures within { result < 16 }
+    {
+        self.used
+    }
+
     /// Xors each byte of the text with the next of the stream.
     pub fn apply<C: BlockCipher>(&mut self, cipher: &C, text: &mut [u8])
         ensures text { text.new ≡ with_bytes (key_byte (C.sealed cipher.now) (B.block self.old.0) self.old.1) text.old }

@@ -5,9 +5,11 @@ mod counter;
 mod ctr;
 mod key_stream;
 mod rfc3686;
+mod text;
 
 pub use ctr::Ctr;
 pub use key_stream::{
     CounterBlocks, KeyStream, apply_behind_first, apply_in_two, apply_key_stream, first_ciphers,
 };
 pub use rfc3686::Rfc3686;
+pub use text::CtrText;

@@ -1,3 +1,6 @@
 pub mod Tag
 pub mod Counted
 pub mod Whole
+pub mod Streamed
+pub mod GcmStreamed
+pub mod Guards

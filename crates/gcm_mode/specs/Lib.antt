@@ -1,2 +1,4 @@
 pub mod Laws
 pub mod Segments
+pub mod Streams
+pub mod Guarded

@@ -46,8 +46,8 @@ pub(crate) fn counter_after(block: u128, count: u64) -> u128
 
 /// The counter blocks from one on (6.5).
 #[derive(Drop)]
-struct Counter {
-    next: u128,
+pub(crate) struct Counter {
+    pub(crate) next: u128,
 }
 
 impl CounterBlocks for Counter {

@@ -24,8 +24,8 @@ pub fn takes_gcm_tag(len: usize) -> bool
 
 /// The block of the two lengths, in bits (7.1, step 5).
 fn lengths_of(associated_len: usize, text_len: usize) -> u128
-    requires associated_short { associated_len < 2 ^ 32 }
-    requires text_short { text_len < 2 ^ 32 }
+    requires associated_short { associated_len < 2 ^ 61 }
+    requires text_short { text_len < 2 ^ 61 }
     ensures { result ≡ associated_len * 8 * 2 ^ 64 + text_len * 8 }
 {
     (associated_len as u128 * 8) * 0x1_0000_0000_0000_0000 + text_len as u128 * 8
@@ -140,8 +140,8 @@ impl<C: BlockCipher + Drop, H: GhashKey + Drop> Gcm<C, H> {
         associated_len: usize,
         text_len: usize,
     ) -> [u8; 16]
-        requires associated_short { associated_len < 2 ^ 32 }
-        requires text_short { text_len < 2 ^ 32 }
+        requires associated_short { associated_len < 2 ^ 61 }
+        requires text_short { text_len < 2 ^ 61 }
         ensures { result ≡ gctr (C.sealed self.now) (pre_counter_block iv.now) (bytes_of (field_product
             (bit_xor hash (associated_len * 8 * 2 ^ 64 + text_len * 8)) (hash_subkey (C.sealed self.now)))) }
     {

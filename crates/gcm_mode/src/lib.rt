@@ -5,11 +5,17 @@
 //! 16 bytes is the one to take: one of 4 or 8 bytes bounds how many texts a key may open (appendix C).
 #![tactic(auto)]
 
+mod byte_hash;
 mod counter;
 mod gcm;
+mod guarded;
 mod rfc4106;
 mod segments;
+mod stream;
 
+pub use byte_hash::ByteHash;
 pub use gcm::{Gcm, takes_gcm_tag};
+pub use guarded::{GcmOpening, GcmSealing, Refusal};
 pub use rfc4106::{Rfc4106, authenticated_bytes, takes_rfc4106_associated, takes_rfc4106_tag};
 pub use segments::{KeyStream, TextHash};
+pub use stream::{GcmBegun, GcmText};

@@ -4,5 +4,7 @@
 mod key_block;
 mod mac;
 mod padded_key;
+mod stream;
 
 pub use mac::Mac;
+pub use stream::Message;

@@ -91,15 +91,23 @@ impl Mac {
     }
 
     /// The MAC of what the inner hasher has taken behind its block.
-    #[tactic(auto, unfolding(std_defs::specs::Hmac::hmac_under))]
     fn finish(&self, inner: Sha256) -> [u8; 32]
         ensures { (message : List ℕ) → HasAbsorbed inner (xor_pad 0x36 self.now ++ message) → result ≡ hmac_under self.now message }
     {
-        let digest = inner.finalize();
-        let mut outer = self.outer.clone().unwrap();
-        outer.update(digest.as_slice());
-        outer.finalize()
+        outer_digest(&self.outer, inner)
     }
+}
+
+/// The MAC of what the inner hasher has taken behind its block, by the outer one, which has taken its block.
+#[tactic(auto, unfolding(std_defs::specs::Hmac::hmac_under))]
+pub(crate) fn outer_digest(outer: &Sha256, inner: Sha256) -> [u8; 32]
+    ensures { (key message : List ℕ) → HasAbsorbed inner (xor_pad 0x36 key ++ message) → HasAbsorbed outer.now (xor_pad 0x5c key)
+        → result ≡ hmac_under key message }
+{
+    let digest = inner.finalize();
+    let mut outer = outer.clone().unwrap();
+    outer.update(digest.as_slice());
+    outer.finalize()
 }
 
 /// Hashes the pieces one after another.

@@ -8,7 +8,8 @@ use Rattle.alg_names.specs.Spelled.{tree_of}
 use Rattle.board.specs.declared.entry.BoardEntry.{BoardEntry}
 use Rattle.board.specs.declared.entry.Shape.TheVariants.{Pad}
 use Rattle.board.specs.Entries.{entries_of, submissions, completes_from}
-use Rattle.templates.specs.Table.{table, template_named}
+use Rattle.templates.specs.Table.{table}
+use Rattle.templates.specs.Words.{template_named}
 use Rattle.templates.specs.Resolution.{weight}
 use Rattle.transforms.specs.declared.ask.Ask.{Ask}
 use Rattle.script_text.specs.declared.commands.Line.{Line}

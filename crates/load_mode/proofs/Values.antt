@@ -12,7 +12,7 @@ use Rattle.std_defs.specs.Authenc.{blob, is_blob, blob_keys, cipher_key_length, 
 use Rattle.std_defs.specs.Modes.{cbc_seal}
 use Rattle.std_defs.specs.Value.{or_invalid}
 use Rattle.generator.specs.Draws.{drawn}
-use Rattle.templates.specs.Table.{template_named}
+use Rattle.templates.specs.Words.{template_named}
 use Rattle.transforms.specs.Finish.{finished_of}
 use Rattle.transforms.specs.RequestValue.{request_value, with_mac}
 use Rattle.std_defs.specs.Hmac.{hmac}

@@ -13,7 +13,7 @@ use std::collections::BTreeMap;
 /// The live transforms. Each has a number, and a later one has a greater number, so `transforms` goes over them in
 /// order of allocation. To find one takes time that grows with the logarithm of how many there are.
 ///
-/// RequestLines write through loans of a transform, so it is the session's invariant that the labels lead where they
+/// Lines write through loans of a transform, so it is the session's invariant that the labels lead where they
 /// should.
 #[derive(Drop)]
 pub struct LiveTransforms {

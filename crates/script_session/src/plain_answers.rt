@@ -1,4 +1,4 @@
-//! RequestLines, and their end, whose answers are handed out as they are, and not as text.
+//! Lines, and their end, whose answers are handed out as they are, and not as text.
 
 ghost use Rattle.std.specs.Prelude.{◌≡◌, false, OnOk, MatchResult};
 ghost use Rattle.script_text.specs.Sizes.{IsShortLine};

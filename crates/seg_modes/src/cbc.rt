@@ -1,6 +1,7 @@
 //! CBC over segments.
 
-ghost use Rattle.std.specs.Prelude.{◌≡◌, ◌-◌, ◌<◌, All, nat_lt, if◌then◌else◌, length, drop};
+ghost use Rattle.std.specs.Prelude.{◌≡◌, ◌-◌, ◌/◌, ◌%◌, ◌<◌, All, nat_lt, if◌then◌else◌, length, drop, Some};
+ghost use Rattle.std_defs.specs.Modes.{cbc_seal, cbc_unseal, cbc_block, cbc_before};
 ghost use Rattle.seg_modes.specs.Cbc.{Seals, seals_none, seals_on, Unseals, unseals_none, unseals_on};
 
 use crate::seg_cipher::SegCipher;
@@ -129,4 +130,27 @@ impl<C: BlockCipher + Drop> SegCipher for Cbc<C> {
         b.walk(&mut chain);
         Ok(())
     }
+}
+
+/// Seals a text of whole blocks in its place. The IV becomes that of the text behind it: the last ciphertext block.
+pub fn seal_on<C: BlockCipher + Drop>(mode: &Cbc<C>, iv: &mut [u8; 16], text: &mut [u8])
+    requires { length text.old % 16 ≡ 0 }
+    ensures made { cbc_seal (C.sealed mode.now) iv.old text.old ≡ Some text.new }
+    ensures next { iv.new ≡ cbc_block (C.sealed mode.now) iv.old text.old (length text.old / 16) }
+{
+    let mut chain = SealingChain::new(mode, *iv);
+    chain.step(text);
+    *iv = chain.before;
+}
+
+/// Unseals a text of whole blocks in its place. The IV becomes that of the text behind it: the last block of what the
+/// text was.
+pub fn unseal_on<C: BlockCipher + Drop>(mode: &Cbc<C>, iv: &mut [u8; 16], text: &mut [u8])
+    requires { length text.old % 16 ≡ 0 }
+    ensures made { cbc_unseal (C.unsealed mode.now) iv.old text.old ≡ Some text.new }
+    ensures next { iv.new ≡ cbc_before iv.old text.old (length text.old / 16) }
+{
+    let mut chain = UnsealingChain::new(mode, *iv);
+    chain.step(text);
+    *iv = chain.before;
 }

@@ -5,6 +5,6 @@ mod cbc;
 mod ctr;
 mod seg_cipher;
 
-pub use cbc::{SealingChain, UnsealingChain};
+pub use cbc::{SealingChain, UnsealingChain, seal_on, unseal_on};
 pub use ctr::CtrStream;
 pub use seg_cipher::SegCipher;

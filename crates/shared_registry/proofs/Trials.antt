@@ -3,7 +3,8 @@ use Rattle.std.proofs.Common.{refl}
 use Rattle.alg_registry.specs.Legal.{LegalReg}
 use Rattle.alg_registry.specs.Made.{Made}
 use Rattle.alg_names.specs.Spelled.{tree_of}
-use Rattle.templates.specs.Table.{table, template_named}
+use Rattle.templates.specs.Table.{table}
+use Rattle.templates.specs.Words.{template_named}
 use Rattle.shared_registry.specs.Faithful.{IsFaithful}
 use Rattle.shared_registry.specs.Trial.{side_by_side}
 

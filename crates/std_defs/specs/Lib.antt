@@ -10,3 +10,7 @@ pub mod Rfc4106
 pub mod Xts
 pub mod Cmac
 pub mod Ccm
+pub mod ChaCha20
+pub mod Poly1305
+pub mod ChaCha20Poly1305
+pub mod Rfc7634

@@ -1,5 +1,4 @@
 pub mod Wrappers
-pub mod WordKinds
 pub mod Words
 pub mod TableLaws
 pub mod Growth

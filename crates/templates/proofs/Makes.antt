@@ -20,9 +20,10 @@ use Rattle.templates.specs.declared.driver_plans.AesForm.TheVariants.{AesGeneric
 use Rattle.templates.specs.declared.driver_plans.GhashForm.{GhashForm}
 use Rattle.templates.specs.declared.driver_plans.GhashForm.TheVariants.{GhashGeneric, GhashTable}
 use Rattle.templates.specs.Nesting.{is_wrapper_word}
-use Rattle.templates.specs.Table.{template_named, template_at, is_cipher, is_hash, is_ghash, is_skcipher, is_aead, is_mac, is_bare, begins_with, admits, admits_two, enclosed, enclosed_two, limited, over_one, over_two, derived_over, derived_by, derived_of, drivers, is_same_driver, is_same_kind, is_one_of, is_built_in, wrap_of}
+use Rattle.templates.specs.Table.{template_at, is_cipher, is_hash, is_ghash, is_skcipher, is_aead, is_mac, is_bare, begins_with, admits, admits_two, enclosed, enclosed_two, limited, over_one, over_two, derived_over, derived_by, derived_of, drivers, is_same_driver, is_same_kind, is_one_of, is_built_in, wrap_of}
+use Rattle.templates.specs.Words.{template_word, template_named}
 use Rattle.templates.specs.Planned.{is_basic}
-use Rattle.templates.proofs.Words.{template_word, word_at}
+use Rattle.templates.proofs.Words.{word_at}
 
 pub data Make : Type 0 where
   cipher : AesForm → Make

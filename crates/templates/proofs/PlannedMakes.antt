@@ -8,7 +8,8 @@ use Rattle.templates.specs.declared.driver_plans.GhashForm.TheVariants.{GhashGen
 use Rattle.std.specs.Option.{option_map_or}
 use Rattle.alg_registry.specs.declared.spec.Wrap.{Wrap}
 use Rattle.alg_registry.specs.declared.spec.Wrap.TheVariants as wrap
-use Rattle.templates.specs.Table.{template_named, wrap_of, is_bare}
+use Rattle.templates.specs.Table.{wrap_of, is_bare}
+use Rattle.templates.specs.Words.{template_named}
 use Rattle.templates.specs.Plans.{plan_at, bare_plan}
 use Rattle.templates.specs.Planned.{IsPlanned, Fits, root_wrap}
 use Rattle.templates.proofs.PlannedHistories.{Grammar}

@@ -1,14 +1,15 @@
 -- What a name asks for is lighter than the name, and nested well.
-use Rattle.std.proofs.Common.{◌≡◌, ℕ, zero, suc, ◌+◌, ◌*◌, ◌<◌, ◌≤◌, ◌⊎◌, inl, inr, Bool, true, false, not, ◌||◌, ◌&&◌, if◌then◌else◌, List, [], ◌∷◌, length, get_or, refl, ap, sym, ◌∙◌, subst, arith, Option, Some, None, Ok, codes}
+use Rattle.std.proofs.Common.{◌≡◌, ◌≢◌, ℕ, zero, suc, ◌+◌, ◌*◌, ◌<◌, ◌≤◌, ◌⊎◌, inl, inr, Bool, true, false, not, ◌||◌, ◌&&◌, if◌then◌else◌, List, [], ◌∷◌, length, get_or, refl, ap, sym, ◌∙◌, subst, arith, Option, Some, None, Ok, codes}
 use Rattle.std.specs.Str.{bytes_eq}
 use Rattle.std.proofs.lemmas.Bool.{and_from}
 use Rattle.alg_names.specs.Name.{Tree, Args, node, end, arg, word_of, args_of, list_of}
 use Rattle.alg_names.specs.Built.{nodes, args_from}
 use Rattle.alg_names.specs.Built.{nodes_at, args_from-list_of}
 use Rattle.templates.specs.declared.template_words.Template.{Template}
-use Rattle.templates.specs.declared.template_words.Template.TheVariants.{Cbc, Ctr, Rfc3686, Xts, Gcm, GcmBase, Rfc4106, Ccm, Hmac, Cmac, Authenc, Pcrypt, Cryptd, CryptdPcrypt}
+use Rattle.templates.specs.declared.template_words.Template.TheVariants.{Gcm, CryptdPcrypt}
 use Rattle.templates.specs.Nesting.{has_wrapper, any_wrapper, inner_args, is_nested_well, is_wrapper_word}
-use Rattle.templates.specs.Table.{template_at, only_one, children_of, asked_by}
+use Rattle.templates.specs.Table.{Arity, template_at, only_one, children_of, arity, asked_as, asked_by}
+use Rattle.templates.specs.Table.Arity.{One, Two, Parts, Within}
 use Rattle.templates.specs.Resolution.{weight}
 use Rattle.templates.proofs.Words.{template_over, gcm_at, queued_at, is_queued}
 use Rattle.templates.proofs.Wrappers.{any_at}
@@ -34,52 +35,37 @@ one_only [] names e = absurd cc
 one_only (x ∷ []) names e = let f : names ≡ x ∷ [] = cc in f
 one_only (x ∷ y ∷ xs) names e = absurd cc
 
+not_chain : (t : Template) (a : Arity) → arity t ≡ a → a ≢ Within → is_chain (Some t) ≡ false
+not_chain CryptdPcrypt a q other = absurd (other (sym q))
+not_chain _ a q other = refl
+
+has_parts : (t : Template) → arity t ≡ Parts → Some t ≡ Some Gcm
+has_parts Gcm q = refl
+has_parts _ q = absurd cc
+
+has_within : (t : Template) → arity t ≡ Within → Some t ≡ Some CryptdPcrypt
+has_within CryptdPcrypt q = refl
+has_within _ q = absurd cc
+
+by_arity : (t : Template) (a : Arity) (args names : List Tree) → arity t ≡ a → asked_as a args ≡ Ok names → AsksOwn (Some t) args names ⊎ (AsksParts (Some t) args names ⊎ AsksWithin (Some t) args names)
+by_arity t One [] names q e = absurd cc
+by_arity t One (x ∷ []) names q e = inl (not_chain t One q (λ f. cc), let f : names ≡ x ∷ [] = cc in f)
+by_arity t One (x ∷ y ∷ xs) names q e = absurd cc
+by_arity t Two [] names q e = absurd cc
+by_arity t Two (x ∷ []) names q e = absurd cc
+by_arity t Two (x ∷ y ∷ []) names q e = inl (not_chain t Two q (λ f. cc), let f : names ≡ x ∷ y ∷ [] = cc in f)
+by_arity t Two (x ∷ y ∷ z ∷ xs) names q e = absurd cc
+by_arity t Parts [] names q e = absurd cc
+by_arity t Parts (x ∷ []) names q e =
+    inr (inl (has_parts t q, x, refl, let f : names ≡ node (codes "ctr") (arg x end) ∷ node (codes "ghash") end ∷ [] = cc in f))
+by_arity t Parts (x ∷ y ∷ xs) names q e = absurd cc
+by_arity t Within [] names q e = absurd cc
+by_arity t Within (x ∷ []) names q e = inr (inr (has_within t q, x, refl, one_only (args_of x) names e))
+by_arity t Within (x ∷ y ∷ xs) names q e = absurd cc
+
 pub by_shape : (o : Option Template) (args names : List Tree) → asked_by o args ≡ Ok names → AsksOwn o args names ⊎ (AsksParts o args names ⊎ AsksWithin o args names)
 by_shape None args names e = absurd cc
-by_shape (Some Cbc) [] names e = absurd cc
-by_shape (Some Cbc) (x ∷ []) names e = inl (refl, let f : names ≡ x ∷ [] = cc in f)
-by_shape (Some Cbc) (x ∷ y ∷ xs) names e = absurd cc
-by_shape (Some Ctr) [] names e = absurd cc
-by_shape (Some Ctr) (x ∷ []) names e = inl (refl, let f : names ≡ x ∷ [] = cc in f)
-by_shape (Some Ctr) (x ∷ y ∷ xs) names e = absurd cc
-by_shape (Some Rfc3686) [] names e = absurd cc
-by_shape (Some Rfc3686) (x ∷ []) names e = inl (refl, let f : names ≡ x ∷ [] = cc in f)
-by_shape (Some Rfc3686) (x ∷ y ∷ xs) names e = absurd cc
-by_shape (Some Xts) [] names e = absurd cc
-by_shape (Some Xts) (x ∷ []) names e = inl (refl, let f : names ≡ x ∷ [] = cc in f)
-by_shape (Some Xts) (x ∷ y ∷ xs) names e = absurd cc
-by_shape (Some Gcm) [] names e = absurd cc
-by_shape (Some Gcm) (x ∷ []) names e = inr (inl (refl, x, refl, let f : names ≡ node (codes "ctr") (arg x end) ∷ node (codes "ghash") end ∷ [] = cc in f))
-by_shape (Some Gcm) (x ∷ y ∷ xs) names e = absurd cc
-by_shape (Some GcmBase) [] names e = absurd cc
-by_shape (Some GcmBase) (x ∷ []) names e = absurd cc
-by_shape (Some GcmBase) (x ∷ y ∷ []) names e = inl (refl, let f : names ≡ x ∷ y ∷ [] = cc in f)
-by_shape (Some GcmBase) (x ∷ y ∷ z ∷ xs) names e = absurd cc
-by_shape (Some Rfc4106) [] names e = absurd cc
-by_shape (Some Rfc4106) (x ∷ []) names e = inl (refl, let f : names ≡ x ∷ [] = cc in f)
-by_shape (Some Rfc4106) (x ∷ y ∷ xs) names e = absurd cc
-by_shape (Some Ccm) [] names e = absurd cc
-by_shape (Some Ccm) (x ∷ []) names e = inl (refl, let f : names ≡ x ∷ [] = cc in f)
-by_shape (Some Ccm) (x ∷ y ∷ xs) names e = absurd cc
-by_shape (Some Hmac) [] names e = absurd cc
-by_shape (Some Hmac) (x ∷ []) names e = inl (refl, let f : names ≡ x ∷ [] = cc in f)
-by_shape (Some Hmac) (x ∷ y ∷ xs) names e = absurd cc
-by_shape (Some Cmac) [] names e = absurd cc
-by_shape (Some Cmac) (x ∷ []) names e = inl (refl, let f : names ≡ x ∷ [] = cc in f)
-by_shape (Some Cmac) (x ∷ y ∷ xs) names e = absurd cc
-by_shape (Some Authenc) [] names e = absurd cc
-by_shape (Some Authenc) (x ∷ []) names e = absurd cc
-by_shape (Some Authenc) (x ∷ y ∷ []) names e = inl (refl, let f : names ≡ x ∷ y ∷ [] = cc in f)
-by_shape (Some Authenc) (x ∷ y ∷ z ∷ xs) names e = absurd cc
-by_shape (Some Pcrypt) [] names e = absurd cc
-by_shape (Some Pcrypt) (x ∷ []) names e = inl (refl, let f : names ≡ x ∷ [] = cc in f)
-by_shape (Some Pcrypt) (x ∷ y ∷ xs) names e = absurd cc
-by_shape (Some Cryptd) [] names e = absurd cc
-by_shape (Some Cryptd) (x ∷ []) names e = inl (refl, let f : names ≡ x ∷ [] = cc in f)
-by_shape (Some Cryptd) (x ∷ y ∷ xs) names e = absurd cc
-by_shape (Some CryptdPcrypt) [] names e = absurd cc
-by_shape (Some CryptdPcrypt) (x ∷ []) names e = inr (inr (refl, x, refl, one_only (args_of x) names e))
-by_shape (Some CryptdPcrypt) (x ∷ y ∷ xs) names e = absurd cc
+by_shape (Some t) args names e = by_arity t (arity t) args names refl e
 
 weight-most : (t : Tree) → weight t ≤ 2 * nodes t + 1
 unfolding weight

@@ -5,7 +5,8 @@ use Rattle.alg_registry.specs.declared.entry.EndAnswer.{EndAnswer}
 use Rattle.alg_registry.specs.declared.entry.EndAnswer.TheVariants.{Built, Failed}
 use Rattle.alg_registry.specs.Made.{Made}
 use Rattle.alg_names.specs.Spelled.{tree_of}
-use Rattle.templates.specs.Table.{table, template_named}
+use Rattle.templates.specs.Table.{table}
+use Rattle.templates.specs.Words.{template_named}
 use Rattle.templates.specs.Trial.{cbc_with, cbc_spec, ctr_spec}
 
 pub cbc_built : Made table (cbc_with (Built 3 cbc_spec))

@@ -1,100 +1,50 @@
 -- The words of templates.
-use Rattle.std.proofs.Common.{◌≡◌, ℕ, ◌≤◌, Bool, true, false, if◌then◌else◌, List, [], ◌∷◌, length, refl, ap, sym, ◌∙◌, subst, arith, Option, Some, None, Ok, codes}
+use Rattle.std.proofs.Common.{◌≡◌, ℕ, ◌≤◌, Bool, true, false, ◌&&◌, if◌then◌else◌, List, [], ◌∷◌, length, refl, ap, sym, ◌∙◌, subst, arith, Option, Some, None, Ok, codes}
 use Rattle.std.specs.Str.{bytes_eq}
 use Rattle.std.proofs.lemmas.Slice.Eq.{bytes_eq-Decides}
 use Rattle.std.specs.Option.{option_map}
+use Rattle.std.specs.List.{find, list_all}
 use Rattle.alg_names.specs.Name.{Tree, Args, node, end, arg, word_of, args_of, with_word_of}
 use Rattle.templates.specs.declared.template_words.Template.{Template}
-use Rattle.templates.specs.declared.template_words.Template.TheVariants.{Cbc, Ctr, Rfc3686, Xts, Gcm, GcmBase, Rfc4106, Ccm, Hmac, Cmac, Authenc, Pcrypt, Cryptd, CryptdPcrypt}
-use Rattle.templates.specs.Table.{template_named, over_pcrypt, template_at, asked}
-
--- the word of a template; that of `cryptd` over `pcrypt` alone is the first of its two
-abbrev pub template_word : Template → List ℕ
-template_word Cbc = codes "cbc"
-template_word Ctr = codes "ctr"
-template_word Rfc3686 = codes "rfc3686"
-template_word Xts = codes "xts"
-template_word Gcm = codes "gcm"
-template_word GcmBase = codes "gcm_base"
-template_word Rfc4106 = codes "rfc4106"
-template_word Ccm = codes "ccm"
-template_word Hmac = codes "hmac"
-template_word Cmac = codes "cmac"
-template_word Authenc = codes "authenc"
-template_word Pcrypt = codes "pcrypt"
-template_word Cryptd = codes "cryptd"
-template_word CryptdPcrypt = codes "cryptd"
-
--- the first word that a word equals names its template
-abbrev first_named : (a b c d e f g h i j k l m : Bool) → Option Template
-first_named a b c d e f g h i j k l m =
-    if a then Some Cbc else (if b then Some Ctr else (if c then Some Rfc3686 else (if d then Some Xts else (if e then Some Gcm else (if f then Some GcmBase else (if g then Some Rfc4106 else (if h then Some Ccm else (if i then Some Hmac else (if j then Some Cmac else (if k then Some Authenc else (if l then Some Pcrypt else (if m then Some Cryptd else None))))))))))))
-
-abbrev test_of : Template → (a b c d e f g h i j k l m : Bool) → Bool
-test_of Cbc a b c d e f g h i j k l m = a
-test_of Ctr a b c d e f g h i j k l m = b
-test_of Rfc3686 a b c d e f g h i j k l m = c
-test_of Xts a b c d e f g h i j k l m = d
-test_of Gcm a b c d e f g h i j k l m = e
-test_of GcmBase a b c d e f g h i j k l m = f
-test_of Rfc4106 a b c d e f g h i j k l m = g
-test_of Ccm a b c d e f g h i j k l m = h
-test_of Hmac a b c d e f g h i j k l m = i
-test_of Cmac a b c d e f g h i j k l m = j
-test_of Authenc a b c d e f g h i j k l m = k
-test_of Pcrypt a b c d e f g h i j k l m = l
-test_of Cryptd a b c d e f g h i j k l m = m
-test_of CryptdPcrypt a b c d e f g h i j k l m = false
+use Rattle.templates.specs.declared.template_words.Template.TheVariants.{Gcm, Cryptd, CryptdPcrypt}
+use Rattle.templates.specs.Table.{over_pcrypt, template_at, asked}
+use Rattle.templates.specs.Words.{template_word, named_templates, template_named}
 
 same_template : {t u : Template} → Some t ≡ Some u → t ≡ u
 same_template e = cc
 
-test_passed : (a b c d e f g h i j k l m : Bool) (t : Template) → first_named a b c d e f g h i j k l m ≡ Some t → test_of t a b c d e f g h i j k l m ≡ true
-test_passed true b c d e f g h i j k l m t q = subst (λ u. test_of u true b c d e f g h i j k l m ≡ true) (same_template q) refl
-test_passed false true c d e f g h i j k l m t q = subst (λ u. test_of u false true c d e f g h i j k l m ≡ true) (same_template q) refl
-test_passed false false true d e f g h i j k l m t q = subst (λ u. test_of u false false true d e f g h i j k l m ≡ true) (same_template q) refl
-test_passed false false false true e f g h i j k l m t q = subst (λ u. test_of u false false false true e f g h i j k l m ≡ true) (same_template q) refl
-test_passed false false false false true f g h i j k l m t q = subst (λ u. test_of u false false false false true f g h i j k l m ≡ true) (same_template q) refl
-test_passed false false false false false true g h i j k l m t q = subst (λ u. test_of u false false false false false true g h i j k l m ≡ true) (same_template q) refl
-test_passed false false false false false false true h i j k l m t q = subst (λ u. test_of u false false false false false false true h i j k l m ≡ true) (same_template q) refl
-test_passed false false false false false false false true i j k l m t q = subst (λ u. test_of u false false false false false false false true i j k l m ≡ true) (same_template q) refl
-test_passed false false false false false false false false true j k l m t q = subst (λ u. test_of u false false false false false false false false true j k l m ≡ true) (same_template q) refl
-test_passed false false false false false false false false false true k l m t q = subst (λ u. test_of u false false false false false false false false false true k l m ≡ true) (same_template q) refl
-test_passed false false false false false false false false false false true l m t q = subst (λ u. test_of u false false false false false false false false false false true l m ≡ true) (same_template q) refl
-test_passed false false false false false false false false false false false true m t q = subst (λ u. test_of u false false false false false false false false false false false true m ≡ true) (same_template q) refl
-test_passed false false false false false false false false false false false false true t q = subst (λ u. test_of u false false false false false false false false false false false false true ≡ true) (same_template q) refl
-test_passed false false false false false false false false false false false false false t q = absurd cc
+-- what a search finds passes its test, and is one of those that it went over
+found_passes : (test holds : Template → Bool) (ts : List Template) (t : Template) → list_all holds ts ≡ true → find test ts ≡ Some t → (test t ≡ true) × (holds t ≡ true)
+found_passes test holds [] t all e = absurd cc
+found_passes test holds (u ∷ us) t all e = by_test (test u) (holds u) refl refl all e (λ later f. found_passes test holds us t later f)
+  where
+    by_test : (b h : Bool) → test u ≡ b → holds u ≡ h → (h && list_all holds us) ≡ true → (if b then Some u else find test us) ≡ Some t
+        → (list_all holds us ≡ true → find test us ≡ Some t → (test t ≡ true) × (holds t ≡ true)) → (test t ≡ true) × (holds t ≡ true)
+    by_test b false p q both f later = absurd cc
+    by_test true true p q both f later = subst (λ v. (test v ≡ true) × (holds v ≡ true)) (same_template f) (p, q)
+    by_test false true p q both f later = later both f
 
-abbrev test_at : Template → List ℕ → Bool
-test_at t w = test_of t (bytes_eq w (codes "cbc")) (bytes_eq w (codes "ctr")) (bytes_eq w (codes "rfc3686")) (bytes_eq w (codes "xts")) (bytes_eq w (codes "gcm")) (bytes_eq w (codes "gcm_base")) (bytes_eq w (codes "rfc4106")) (bytes_eq w (codes "ccm")) (bytes_eq w (codes "hmac")) (bytes_eq w (codes "cmac")) (bytes_eq w (codes "authenc")) (bytes_eq w (codes "pcrypt")) (bytes_eq w (codes "cryptd"))
+-- not `cryptd` over `pcrypt` alone, which no word names
+abbrev has_own_word : Template → Bool
+has_own_word CryptdPcrypt = false
+has_own_word _ = true
 
-passed_at : (w : List ℕ) (t : Template) → template_named w ≡ Some t → test_at t w ≡ true
+found_named : (holds : Template → Bool) (w : List ℕ) (t : Template) → list_all holds named_templates ≡ true → template_named w ≡ Some t
+    → (bytes_eq w (template_word t) ≡ true) × (holds t ≡ true)
 unfolding template_named
-passed_at w t q = test_passed _ _ _ _ _ _ _ _ _ _ _ _ _ t q
+found_named holds w t all q = found_passes (λ u. bytes_eq w (template_word u)) holds named_templates t all q
 
 -- a word that names a template is its word
 pub named_word : (w : List ℕ) (t : Template) → template_named w ≡ Some t → w ≡ template_word t
-named_word w t q = (bytes_eq-Decides w (template_word t)).0 (by_template t (passed_at w t q))
-  where
-    by_template : (u : Template) → test_at u w ≡ true → bytes_eq w (template_word u) ≡ true
-    by_template Cbc e = e
-    by_template Ctr e = e
-    by_template Rfc3686 e = e
-    by_template Xts e = e
-    by_template Gcm e = e
-    by_template GcmBase e = e
-    by_template Rfc4106 e = e
-    by_template Ccm e = e
-    by_template Hmac e = e
-    by_template Cmac e = e
-    by_template Authenc e = e
-    by_template Pcrypt e = e
-    by_template Cryptd e = e
-    by_template CryptdPcrypt e = absurd cc
+named_word w t q = (bytes_eq-Decides w (template_word t)).0 (found_named has_own_word w t refl q).0
+
+-- what holds of each template that is named holds of the one that a word names
+pub named_holds : (holds : Template → Bool) (w : List ℕ) (t : Template) → list_all holds named_templates ≡ true → template_named w ≡ Some t → holds t ≡ true
+named_holds holds w t all q = (found_named holds w t all q).1
 
 -- no word names `cryptd` over `pcrypt` alone
 pub no_word : (w : List ℕ) → template_named w ≡ Some CryptdPcrypt → ⊥
-no_word w q = absurd (let e = passed_at w CryptdPcrypt q in cc)
+no_word w q = absurd (let e = named_holds has_own_word w CryptdPcrypt refl q in cc)
 
 over_word : (template : Template) (args : List Tree) → template_word (over_pcrypt template args) ≡ template_word template
 over_word Cryptd (x ∷ []) = either_word (bytes_eq (word_of x) (codes "pcrypt"))

@@ -7,4 +7,4 @@ pub mod LookResults
 pub mod Plans
 pub mod Trial
 pub mod Planned
-pub mod WordKinds
+pub mod Words

@@ -9,7 +9,8 @@ use Rattle.alg_registry.specs.declared.spec.Wrap.TheVariants as wrap
 use Rattle.alg_names.specs.Name.{Tree, word_of, spelling, IsAllowed}
 use Rattle.templates.specs.declared.driver_plans.Plan.{Plan}
 use Rattle.templates.specs.declared.driver_plans.Plan.TheVariants as plan
-use Rattle.templates.specs.Table.{template_named, wrap_of}
+use Rattle.templates.specs.Table.{wrap_of}
+use Rattle.templates.specs.Words.{template_named}
 use Rattle.templates.specs.Plans.{plan_at}
 
 -- what an instance with the plan is

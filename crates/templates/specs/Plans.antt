@@ -13,7 +13,7 @@ use Rattle.templates.specs.declared.driver_plans.GhashForm.{GhashForm}
 use Rattle.templates.specs.declared.driver_plans.GhashForm.TheVariants.{GhashGeneric, GhashTable}
 use Rattle.templates.specs.declared.driver_plans.Plan.{Plan}
 use Rattle.templates.specs.declared.driver_plans.Plan.TheVariants.{Cbc, Ctr, Rfc3686, Xts, Gcm, Rfc4106, Ccm, Hmac, Cmac, AuthencCbc, AuthencCtr, AuthencRfc3686, AuthencXts}
-use Rattle.templates.specs.Table.{template_named}
+use Rattle.templates.specs.Words.{template_named}
 
 -- a word alone
 abbrev pub is_word : List ℕ → Tree → Bool

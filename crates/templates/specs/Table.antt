@@ -19,23 +19,7 @@ use Rattle.templates.specs.declared.build_errors.BuildErr.{BuildErr}
 use Rattle.templates.specs.declared.build_errors.BuildErr.TheVariants.{Fault, Memory}
 use Rattle.alg_names.specs.Spelled.{tree_of}
 use Rattle.templates.specs.Nesting.{is_nested_well}
-
--- the template of a word
-unfoldable pub template_named : List ℕ → Option Template
-template_named word =
-    if bytes_eq word (codes "cbc") then Some Cbc else
-    (if bytes_eq word (codes "ctr") then Some Ctr else
-    (if bytes_eq word (codes "rfc3686") then Some Rfc3686 else
-    (if bytes_eq word (codes "xts") then Some Xts else
-    (if bytes_eq word (codes "gcm") then Some Gcm else
-    (if bytes_eq word (codes "gcm_base") then Some GcmBase else
-    (if bytes_eq word (codes "rfc4106") then Some Rfc4106 else
-    (if bytes_eq word (codes "ccm") then Some Ccm else
-    (if bytes_eq word (codes "hmac") then Some Hmac else
-    (if bytes_eq word (codes "cmac") then Some Cmac else
-    (if bytes_eq word (codes "authenc") then Some Authenc else
-    (if bytes_eq word (codes "pcrypt") then Some Pcrypt else
-    (if bytes_eq word (codes "cryptd") then Some Cryptd else None))))))))))))
+use Rattle.templates.specs.Words.{template_named}
 
 -- `cryptd` over `pcrypt` alone is a template of its own, which no word names
 abbrev pub over_pcrypt : Template → List Tree → Template
@@ -51,23 +35,31 @@ abbrev pub only_one : List Tree → Result (List Tree) Errno
 only_one (x ∷ []) = Ok (x ∷ [])
 only_one names = Err EINVAL
 
+-- the names that a template asks for: its one argument, its two, the parts of which its one makes an instance, or what
+-- stands within its one
+pub data Arity : Type 0 where
+  One : Arity
+  Two : Arity
+  Parts : Arity
+  Within : Arity
+
+abbrev pub arity : Template → Arity
+arity Gcm = Parts
+arity GcmBase = Two
+arity Authenc = Two
+arity CryptdPcrypt = Within
+arity _ = One
+
+abbrev pub asked_as : Arity → List Tree → Result (List Tree) Errno
+asked_as One (x ∷ []) = Ok (x ∷ [])
+asked_as Two (x ∷ y ∷ []) = Ok (x ∷ y ∷ [])
+asked_as Parts (x ∷ []) = Ok (node (codes "ctr") (arg x end) ∷ node (codes "ghash") end ∷ [])
+asked_as Within (x ∷ []) = only_one (args_of x)
+asked_as _ args = Err EINVAL
+
 -- the names that the template asks for, over its arguments
 abbrev pub asked : Template → List Tree → Result (List Tree) Errno
-asked Cbc (x ∷ []) = Ok (x ∷ [])
-asked Ctr (x ∷ []) = Ok (x ∷ [])
-asked Rfc3686 (x ∷ []) = Ok (x ∷ [])
-asked Xts (x ∷ []) = Ok (x ∷ [])
-asked Gcm (x ∷ []) = Ok (node (codes "ctr") (arg x end) ∷ node (codes "ghash") end ∷ [])
-asked GcmBase (c ∷ g ∷ []) = Ok (c ∷ g ∷ [])
-asked Rfc4106 (x ∷ []) = Ok (x ∷ [])
-asked Ccm (x ∷ []) = Ok (x ∷ [])
-asked Hmac (x ∷ []) = Ok (x ∷ [])
-asked Cmac (x ∷ []) = Ok (x ∷ [])
-asked Authenc (a ∷ e ∷ []) = Ok (a ∷ e ∷ [])
-asked Pcrypt (x ∷ []) = Ok (x ∷ [])
-asked Cryptd (x ∷ []) = Ok (x ∷ [])
-asked CryptdPcrypt (x ∷ []) = only_one (args_of x)
-asked template args = Err EINVAL
+asked template args = asked_as (arity template) args
 
 abbrev pub asked_by : Option Template → List Tree → Result (List Tree) Errno
 asked_by None args = Err ENOENT

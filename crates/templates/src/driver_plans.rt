@@ -1,7 +1,7 @@
 //! What an instance computes, by the name of its driver.
 ghost use Rattle.std.specs.Prelude.{◌≡◌, ℕ, length, Some, None, List};
 ghost use Rattle.templates.specs.Plans.{is_word, aes_form, ghash_form, ctr_form, gcm_plan, salted, is_hmac, cipher_plan, authentic, bare_plan, queued_plan, plan_at, or_invalid};
-ghost use Rattle.templates.specs.Table.{template_named};
+ghost use Rattle.templates.specs.Words.{template_named};
 ghost use Rattle.alg_names.specs.Name.{word_of, args_of};
 
 use crate::template_words::{Template, template_of};

@@ -1,7 +1,7 @@
 //! The words that name templates.
-ghost use Rattle.std.specs.Prelude.{◌≡◌, None};
-ghost use Rattle.templates.specs.Table.{template_named, template_at};
-ghost use Rattle.templates.specs.WordKinds.{named_in, skciphers, aeads, macs_and_wrappers};
+ghost use Rattle.std.specs.Prelude.{◌≡◌};
+ghost use Rattle.templates.specs.Table.{template_at};
+ghost use Rattle.templates.specs.Words.{template_word, template_named};
 
 use alg_names::Name;
 
@@ -24,71 +24,55 @@ pub enum Template {
     CryptdPcrypt,
 }
 
-/// The template of a word of a mode that encrypts alone.
-fn skcipher_of(word: &[u8]) -> Option<Template>
-    ensures { result ≡ named_in word.now skciphers None }
-{
-    if word == b"cbc".as_slice() {
-        Some(Template::Cbc)
-    } else if word == b"ctr".as_slice() {
-        Some(Template::Ctr)
-    } else if word == b"rfc3686".as_slice() {
-        Some(Template::Rfc3686)
-    } else if word == b"xts".as_slice() {
-        Some(Template::Xts)
-    } else {
-        None
-    }
-}
+/// The templates that a word names.
+const NAMED: [Template; 13] = [
+    Template::Cbc,
+    Template::Ctr,
+    Template::Rfc3686,
+    Template::Xts,
+    Template::Gcm,
+    Template::GcmBase,
+    Template::Rfc4106,
+    Template::Ccm,
+    Template::Hmac,
+    Template::Cmac,
+    Template::Authenc,
+    Template::Pcrypt,
+    Template::Cryptd,
+];
 
-/// The template of a word of a mode that encrypts and authenticates.
-fn aead_of(word: &[u8]) -> Option<Template>
-    ensures { result ≡ named_in word.now aeads None }
-{
-    if word == b"gcm".as_slice() {
-        Some(Template::Gcm)
-    } else if word == b"gcm_base".as_slice() {
-        Some(Template::GcmBase)
-    } else if word == b"rfc4106".as_slice() {
-        Some(Template::Rfc4106)
-    } else if word == b"ccm".as_slice() {
-        Some(Template::Ccm)
-    } else {
-        None
-    }
-}
-
-/// The template of the word of a MAC, of `authenc` or of a wrapper.
-fn mac_or_wrapper_of(word: &[u8]) -> Option<Template>
-    ensures { result ≡ named_in word.now macs_and_wrappers None }
-{
-    if word == b"hmac".as_slice() {
-        Some(Template::Hmac)
-    } else if word == b"cmac".as_slice() {
-        Some(Template::Cmac)
-    } else if word == b"authenc".as_slice() {
-        Some(Template::Authenc)
-    } else if word == b"pcrypt".as_slice() {
-        Some(Template::Pcrypt)
-    } else if word == b"cryptd".as_slice() {
-        Some(Template::Cryptd)
-    } else {
-        None
+impl Template {
+    /// Its word; that of `CryptdPcrypt` is the first of its two.
+    fn word(self) -> &'static [u8]
+        ensures { result.now ≡ template_word self }
+    {
+        match self {
+            Template::Cbc => b"cbc",
+            Template::Ctr => b"ctr",
+            Template::Rfc3686 => b"rfc3686",
+            Template::Xts => b"xts",
+            Template::Gcm => b"gcm",
+            Template::GcmBase => b"gcm_base",
+            Template::Rfc4106 => b"rfc4106",
+            Template::Ccm => b"ccm",
+            Template::Hmac => b"hmac",
+            Template::Cmac => b"cmac",
+            Template::Authenc => b"authenc",
+            Template::Pcrypt => b"pcrypt",
+            Template::Cryptd | Template::CryptdPcrypt => b"cryptd",
+        }
     }
 }
 
 /// The template of a word.
-#[tactic(auto, using(crate::proofs::WordKinds::found_other))]
+#[tactic(auto, unfolding(crate::specs::Words::template_named))]
 pub(crate) fn template_of(word: &[u8]) -> Option<Template>
     ensures { result ≡ template_named word.now }
 {
-    if let Some(template) = skcipher_of(word) {
-        return Some(template);
-    }
-    if let Some(template) = aead_of(word) {
-        return Some(template);
-    }
-    mac_or_wrapper_of(word)
+    NAMED
+        .iter()
+        .copied()
+        .find(|template| word == template.word())
 }
 
 /// The template of a name.

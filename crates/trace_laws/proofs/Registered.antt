@@ -27,7 +27,9 @@ use Rattle.alg_names.specs.Name.{Tree, word_of, args_of}
 use Rattle.alg_names.specs.Spelled.{tree_of}
 use Rattle.templates.specs.declared.template_words.Template.{Template}
 use Rattle.templates.specs.declared.template_words.Template.TheVariants.{Authenc, Pcrypt, Cryptd, CryptdPcrypt}
-use Rattle.templates.specs.Table.{template_named, over_pcrypt, admits, admits_two, enclosed, enclosed_two, inside_ctr, name_over, driver_over, name_over_two, driver_over_two, limited, over_one, over_two, derived_over, derived_by, derived_of, drivers, is_same_kind, is_same_driver, is_one_of, table}
+use Rattle.templates.specs.Table.{over_pcrypt, admits, admits_two, enclosed, enclosed_two, inside_ctr, name_over, driver_over, name_over_two, driver_over_two, limited, over_one, over_two, derived_over, derived_by, derived_of, drivers, is_same_kind, is_same_driver, is_one_of, table}
+use Rattle.templates.specs.Words.{template_word, template_named}
+use Rattle.templates.proofs.Words.{named_word, named_holds}
 use Rattle.trace_text.specs.Trace.{is_visible, is_word, has_words, is_unwrapped, end_has_text, has_text}
 
 -- ---- tests that hold together
@@ -85,34 +87,8 @@ inside_ctr-printed name p = taken (length name - 1 - 4) (drop 4 name) (dropped 4
 
 -- ---- the words of templates
 
--- the word equals this one, or a later one of the chain of tests
-named_or : (w literal : List ℕ) (t u : Template) (later : Option Template) → IsWord literal
-    → (later ≡ Some t → IsWord w) → (if bytes_eq w literal then Some u else later) ≡ Some t → IsWord w
-named_or w literal t u later is otherwise e = by_test (bytes_eq w literal) refl e
-  where
-    by_test : (b : Bool) → bytes_eq w literal ≡ b → (if b then Some u else later) ≡ Some t → IsWord w
-    by_test true q f = ap is_word ((bytes_eq-Decides w literal).0 q) ∙ is
-    by_test false q f = otherwise f
-
-no_template : (t : Template) (w : List ℕ) → None ≡ Some t → IsWord w
-no_template t w e = absurd cc
-
 template-word : (w : List ℕ) (t : Template) → template_named w ≡ Some t → IsWord w
-unfolding template_named
-template-word w t e =
-    named_or w (codes "cbc") t _ _ refl
-    (named_or w (codes "ctr") t _ _ refl
-    (named_or w (codes "rfc3686") t _ _ refl
-    (named_or w (codes "xts") t _ _ refl
-    (named_or w (codes "gcm") t _ _ refl
-    (named_or w (codes "gcm_base") t _ _ refl
-    (named_or w (codes "rfc4106") t _ _ refl
-    (named_or w (codes "ccm") t _ _ refl
-    (named_or w (codes "hmac") t _ _ refl
-    (named_or w (codes "cmac") t _ _ refl
-    (named_or w (codes "authenc") t _ _ refl
-    (named_or w (codes "pcrypt") t _ _ refl
-    (named_or w (codes "cryptd") t _ _ refl (no_template t w))))))))))))) e
+template-word w t e = ap is_word (named_word w t e) ∙ named_holds (λ u. is_word (template_word u)) w t refl e
 
 -- ---- what a template makes
 

@@ -5,7 +5,7 @@ use Rattle.std_defs.specs.Rfc4106.{rfc4106_takes, rfc4106_iv, rfc4106_associated
 use Rattle.std_defs.specs.Value.{Value}
 use Rattle.std_defs.specs.Value.Value.{invalid}
 use Rattle.alg_names.specs.Name.{Tree, Args, node, end, arg}
-use Rattle.templates.specs.Table.{template_named}
+use Rattle.templates.specs.Words.{template_named}
 use Rattle.templates.specs.declared.template_words.Template.{Template}
 use Rattle.templates.specs.declared.template_words.Template.TheVariants.{Cbc, Ctr, Rfc3686, Xts, GcmBase, Rfc4106, Ccm, Hmac, Cmac, Authenc, Pcrypt, Cryptd}
 use Rattle.templates.specs.declared.driver_plans.Plan.{Plan}

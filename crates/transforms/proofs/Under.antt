@@ -5,7 +5,7 @@ use Rattle.std.proofs.lemmas.List.{length-take-le}
 use Rattle.std_defs.specs.Aes.{seal, unseal, IsKeyLength}
 use Rattle.std_defs.specs.Modes.{cbc_seal, cbc_unseal, ctr as ctr_of, rfc3686_counter}
 use Rattle.std_defs.specs.Xts.{xts_seal, xts_unseal}
-use Rattle.templates.specs.Table.{template_named}
+use Rattle.templates.specs.Words.{template_named}
 use Rattle.templates.specs.declared.driver_plans.AesForm.{AesForm}
 use Rattle.templates.specs.declared.driver_plans.Plan.TheVariants as plan
 use Rattle.transforms.specs.Plans.{is_key_length, is_salted_length, front_key, last_four, first_half, second_half}

@@ -4,7 +4,7 @@ use Rattle.std_defs.specs.Aes.{seal}
 use Rattle.std_defs.specs.Cmac.{cmac}
 use Rattle.std_defs.specs.Hmac.{block_key}
 use Rattle.std_defs.specs.Value.Value.{bytes}
-use Rattle.templates.specs.Table.{template_named}
+use Rattle.templates.specs.Words.{template_named}
 use Rattle.templates.specs.declared.driver_plans.AesForm.{AesForm}
 use Rattle.templates.specs.declared.driver_plans.Plan.TheVariants as plan
 use Rattle.transforms.specs.Forms.{key_of, form_of}

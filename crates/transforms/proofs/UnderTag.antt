@@ -6,7 +6,7 @@ use Rattle.std_defs.specs.Authenc.{authenc_seal, authenc_open, blob}
 use Rattle.std_defs.specs.Value.{Value, or_invalid}
 use Rattle.std_defs.specs.Value.Value.{bytes, invalid}
 use Rattle.sg_walk.specs.Segments.{Segmented}
-use Rattle.templates.specs.Table.{template_named}
+use Rattle.templates.specs.Words.{template_named}
 use Rattle.templates.specs.declared.driver_plans.AesForm.{AesForm}
 use Rattle.templates.specs.declared.driver_plans.GhashForm.{GhashForm}
 use Rattle.templates.specs.declared.driver_plans.Plan.TheVariants as plan

@@ -20,7 +20,7 @@ use Rattle.std_defs.specs.Xts.{xts_block, xts_blocks, with_stealing, xts_unit, x
 use Rattle.std_defs.proofs.GcmOpened.{length-gcm_tag}
 use Rattle.std_defs.proofs.Joined.{length-joined, xor_blocks-length}
 use Rattle.std_defs.proofs.KeyStream.{length-with_stream}
-use Rattle.templates.specs.Table.{template_named}
+use Rattle.templates.specs.Words.{template_named}
 use Rattle.templates.specs.declared.driver_plans.Plan.{Plan}
 use Rattle.templates.specs.declared.driver_plans.Plan.TheVariants as plan
 use Rattle.transforms.specs.AskValue.{ask_value, ask_size}

@@ -1,7 +1,7 @@
 -- The driver of a plan: the name of its instance, without `pcrypt` and `cryptd`.
 use Rattle.std.specs.Prelude.{ℕ, Option, Some, List, [], ◌∷◌, codes}
 use Rattle.alg_names.specs.Name.{Tree, node, end, arg, word_of, args_of}
-use Rattle.templates.specs.Table.{template_named}
+use Rattle.templates.specs.Words.{template_named}
 use Rattle.templates.specs.declared.template_words.Template.{Template}
 use Rattle.templates.specs.declared.template_words.Template.TheVariants.{Pcrypt, Cryptd}
 use Rattle.templates.specs.declared.driver_plans.AesForm.{AesForm}

@@ -13,7 +13,7 @@ use Rattle.std_defs.specs.Authenc.{blob}
 use Rattle.std_defs.specs.Value.{Value, or_invalid, or_bad_message}
 use Rattle.std_defs.specs.Value.Value.{bytes, bad_message, invalid}
 use Rattle.alg_names.specs.Name.{Tree, Args, node, end, arg}
-use Rattle.templates.specs.Table.{template_named}
+use Rattle.templates.specs.Words.{template_named}
 use Rattle.templates.specs.declared.template_words.Template.{Template}
 use Rattle.templates.specs.declared.template_words.Template.TheVariants.{Cbc, Ctr, Rfc3686, Xts, GcmBase, Rfc4106, Ccm, Hmac, Cmac, Authenc, Pcrypt, Cryptd}
 use Rattle.transforms.specs.Cuts.{in_one}

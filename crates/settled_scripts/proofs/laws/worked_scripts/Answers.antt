@@ -1,6 +1,7 @@
 use Rattle.std.proofs.Common.{refl}
 use Rattle.alg_names.specs.Spelled.{tree_of}
-use Rattle.templates.specs.Table.{table, template_named}
+use Rattle.templates.specs.Table.{table}
+use Rattle.templates.specs.Words.{template_named}
 use Rattle.templates.specs.Resolution.{weight}
 use Rattle.transforms.specs.RequestValue.{request_value}
 use Rattle.settled_scripts.proofs.laws.worked_scripts.Goals as goal

@@ -1,6 +1,6 @@
 use Rattle.std.proofs.Common.{ap, ◌∙◌, Some}
 use Rattle.std_defs.specs.Blocks.{block_number}
-use Rattle.ctr_mode.proofs.CtrText.{ctr_text}
+use Rattle.ctr_mode.proofs.WholeText.{ctr_text}
 use Rattle.ctr_mode.proofs.ctr.CtrSkcipher.seal.Goals as goal
 
 pub returns : goal.returns

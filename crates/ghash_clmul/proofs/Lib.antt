@@ -1,0 +1,5 @@
+mod Reduced
+mod Parts
+mod Folds
+mod Vectors
+mod Powers

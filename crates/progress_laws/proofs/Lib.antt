@@ -1,0 +1,5 @@
+pub mod Spent
+pub mod Sums
+pub mod Going
+pub mod Wanted
+pub mod Builders
