@@ -3,6 +3,7 @@
 use crate::given::{array, bytes, words_of};
 use aes_block::{Aes, BlockCipher};
 use aes_lanes::LaneAes;
+use aes_ni::NiAes;
 use aes_table::TableAes;
 use std::alloc::Global;
 use std::process::Abort;
@@ -48,6 +49,7 @@ fn row_holds(rt: &impl Abort, alloc: Global, row: &'static str) {
         &sealed,
     );
     goes_both_ways(rt, &LaneAes::new(&key).expect(rt, "a key"), &block, &sealed);
+    goes_both_ways(rt, &NiAes::new(&key).expect(rt, "a key"), &block, &sealed);
 }
 
 #[test]

@@ -2,6 +2,7 @@
 
 use aes_block::{Aes, BlockCipher};
 use aes_lanes::LaneAes;
+use aes_ni::NiAes;
 use aes_table::TableAes;
 use std::process::Abort;
 
@@ -25,6 +26,7 @@ fn chain_to(rt: &impl Abort, key: &[u8], sealed: u128) {
     assert!(rt; chained(&Aes::new(key).expect(rt, "a key")) == sealed);
     assert!(rt; chained(&TableAes::new(key).expect(rt, "a key")) == sealed);
     assert!(rt; chained(&LaneAes::new(key).expect(rt, "a key")) == sealed);
+    assert!(rt; chained(&NiAes::new(key).expect(rt, "a key")) == sealed);
 }
 
 #[test]

@@ -1,0 +1,3 @@
+mod KeyVectors
+mod OneBlock
+mod EightBlocks

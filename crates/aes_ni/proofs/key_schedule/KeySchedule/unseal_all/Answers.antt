@@ -1,0 +1,27 @@
+use Rattle.std.specs.Prelude.{◌-◌}
+use Rattle.std.proofs.Common.{arith}
+use Rattle.aes_block.proofs.Rounds.{at_least_ten}
+use Rattle.aes_ni.specs.RoundKeys.{schedule_of}
+use Rattle.aes_ni.proofs.EightBlocks.{back_all_begun, back_all_more, back_all_end}
+use Rattle.aes_ni.proofs.key_schedule.KeySchedule.unseal_all.Goals as goal
+
+pub loop-round-init : goal.loop-round-init
+loop-round-init c =
+    let s = c.args.self.now in (
+      omega (arith, at_least_ten s.rounds (schedule_of s.keys) s.scheduled),
+      back_all_begun s.rounds (schedule_of s.keys) c.args.blocks.now _ s.scheduled c.add_key_to_all.ensures,
+    )
+
+pub loop-round-preserved : goal.loop-round-preserved
+loop-round-preserved c =
+    let s = c.args.self.now in (
+      omega arith,
+      back_all_more s.rounds (schedule_of s.keys) (c.loop-round.round - 1) (c.loop-round.round - 1 - 1) c.args.blocks.now c.loop-round.states _ s.scheduled (omega arith) (omega arith)
+          c.loop-round.invariant.1 c.unseal_round_of_all.ensures,
+    )
+
+pub returns : goal.returns
+returns c =
+    let s = c.args.self.now in
+    back_all_end s.rounds (schedule_of s.keys) (c.loop-round.round - 1) c.args.blocks.now c.loop-round.states _ s.scheduled (omega arith)
+    c.loop-round.invariant.1 c.unseal_last_of_all.ensures

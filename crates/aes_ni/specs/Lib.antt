@@ -1,0 +1,2 @@
+pub mod RoundKeys
+pub mod Key
