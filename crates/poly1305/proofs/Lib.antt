@@ -1,0 +1,7 @@
+pub mod Products
+pub mod LaneFacts
+pub mod Horner
+pub mod Words
+pub mod PowersOfR
+pub mod Groups
+pub mod PaddedText
