@@ -4,6 +4,7 @@
 #include <perdoaze.h>
 #include <stdio.h>
 #include <stdlib.h>
+#include <string.h>
 
 #define DRIVER "authenc(hmac(sha256-generic),cbc(aes-lanes))"
 /* one that doesn't go over pieces */
@@ -108,7 +109,7 @@ int main(void)
 	used = 0;
 	if (perdoaze_encrypt(&t, iv, 16, text, 20, text, 32, first, 64, NULL))
 		return fail("encrypt", -1);
-	if (perdoaze_encrypt_many(&t, &(struct perdoaze_request){ iv, 16, text, 20, out, 64, 32, 0, 0 }, 1))
+	if (perdoaze_encrypt_many(&t, &(struct perdoaze_request){ sizeof(struct perdoaze_request), iv, 16, text, 20, out, 64, 32, 0, 0 }, 1))
 		return fail("encrypt_many", -1);
 	requests = used;
 	used = 0;

@@ -2,6 +2,7 @@
 #include <errno.h>
 #include <perdoaze.h>
 #include <stdio.h>
+#include <string.h>
 
 #define CHECK(holds) \
 	do { \
@@ -196,20 +197,20 @@ static int duplicates(void)
 static int infos(void)
 {
 	struct perdoaze t = PERDOAZE_NONE;
-	struct perdoaze_info info, listed;
+	struct perdoaze_info info = PERDOAZE_INFO, listed = PERDOAZE_INFO;
 	size_t n = 0;
 
-	CHECK(perdoaze_info(&t, &info) == -EINVAL && perdoaze_info(NULL, &info) == -EINVAL && perdoaze_info(&t, NULL) == -EINVAL);
+	CHECK(perdoaze_get_info(&t, &info) == -EINVAL && perdoaze_get_info(NULL, &info) == -EINVAL && perdoaze_get_info(&t, NULL) == -EINVAL);
 	for (; perdoaze_list(n, &listed) == 0; n++) {
-		const char *driver = (const char *)listed.driver;
+		const char *driver = listed.driver;
 
-		CHECK(perdoaze_init(&t, driver) == 0 && perdoaze_info(&t, &info) == 0 && !memcmp(&info, &listed, sizeof info));
-		CHECK(perdoaze_init(&t, (const char *)listed.name) == 0 && perdoaze_info(&t, &info) == 0);
+		CHECK(perdoaze_init(&t, driver) == 0 && perdoaze_get_info(&t, &info) == 0 && !memcmp(&info, &listed, sizeof info));
+		CHECK(perdoaze_init(&t, listed.name) == 0 && perdoaze_get_info(&t, &info) == 0);
 		CHECK(!memcmp(info.name, listed.name, sizeof info.name) && info.priority >= listed.priority);
 	}
 	CHECK(n == 43 && perdoaze_list(SIZE_MAX, &listed) == -ENOENT && perdoaze_list(0, NULL) == -EINVAL);
-	CHECK(perdoaze_init(&t, "gcm(aes)") == 0 && perdoaze_info(&t, &info) == 0);
-	CHECK(!strcmp((const char *)info.driver, "gcm_base(ctr(aes-lanes),ghash-table)") && info.kind == PERDOAZE_AEAD);
+	CHECK(perdoaze_init(&t, "gcm(aes)") == 0 && perdoaze_get_info(&t, &info) == 0);
+	CHECK(!strcmp(info.driver, "gcm_base(ctr(aes-lanes),ghash-table)") && info.kind == PERDOAZE_AEAD);
 	CHECK(info.iv_size == 12 && info.max_tag_size == 16 && info.min_key_size == 16 && info.max_key_size == 32 && info.block_size == 1);
 	perdoaze_free(&t);
 	return 0;

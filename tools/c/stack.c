@@ -3,6 +3,7 @@
 #define _DEFAULT_SOURCE
 #include <perdoaze.h>
 #include <stdio.h>
+#include <string.h>
 #include <ucontext.h>
 
 #define SIZE (1 << 18)
@@ -19,14 +20,14 @@ static int failed;
 static __attribute__((noinline)) int calls(void)
 {
 	struct perdoaze t = PERDOAZE_NONE, u = PERDOAZE_NONE;
-	struct perdoaze_info info;
+	struct perdoaze_info info = PERDOAZE_INFO;
 	uint8_t key[64] = { 8, 0, 1, 0, 0, 0, 0, 16 }, iv[16] = { 1 };
 	struct iovec pieces[2] = { { text, 1024 }, { text + 1024, 3072 } };
 	struct perdoaze_request many[8];
 	size_t n, aad;
 
 	memset(key + 8, 0xa5, 56);
-	if (perdoaze_init(&t, driver) || perdoaze_info(&t, &info))
+	if (perdoaze_init(&t, driver) || perdoaze_get_info(&t, &info))
 		return 1;
 	n = info.min_key_size ? info.min_key_size : 40;
 	key[7] = (uint8_t)(n - 8);
@@ -39,7 +40,7 @@ static __attribute__((noinline)) int calls(void)
 						|| perdoaze_encryptv(&t, iv, info.iv_size, iv, aad, pieces, 2, out, sizeof out, NULL))
 		return 1;
 	for (int i = 0; i < 8; i++)
-		many[i] = (struct perdoaze_request){ iv, info.iv_size, key, aad, out + 96 * i, 96, 64, 0, 0 };
+		many[i] = (struct perdoaze_request){ sizeof *many, iv, info.iv_size, key, aad, out + 96 * i, 96, 64, 0, 0 };
 	if (info.kind != PERDOAZE_MAC && perdoaze_encrypt_many(&t, many, 8))
 		return 1;
 	perdoaze_free(&t);
@@ -80,13 +81,13 @@ static size_t look(size_t *left)
 
 int main(void)
 {
-	struct perdoaze_info info;
+	struct perdoaze_info info = PERDOAZE_INFO;
 	size_t deepest = 0, left = 0, kept = 0;
 
 	for (size_t i = 0; perdoaze_list(i, &info) == 0; i++) {
 		size_t depth;
 
-		driver = (const char *)info.driver;
+		driver = info.driver;
 		wipes = false;
 		depth = look(&left);
 		if (depth > deepest)

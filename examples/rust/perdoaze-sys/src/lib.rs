@@ -43,6 +43,7 @@ pub mod ffi {
         pub max_tag_size: u32,
         pub min_key_size: u32,
         pub max_key_size: u32,
+        pub tag_size: u32,
     }
 
     /// One of several encryptions. Its buffer stands beside it.
@@ -177,7 +178,7 @@ pub mod ffi {
             written: *mut usize,
         ) -> i32;
         pub fn perdoaze_raw_dup(from: *mut Perdoaze, into: *mut Perdoaze) -> i32;
-        pub fn perdoaze_raw_info(tfm: *mut Perdoaze, info: *mut Info) -> i32;
+        pub fn perdoaze_raw_get_info(tfm: *mut Perdoaze, info: *mut Info) -> i32;
         pub fn perdoaze_raw_list(index: usize, info: *mut Info) -> i32;
         pub fn perdoaze_raw_free(tfm: *mut Perdoaze);
         pub fn perdoaze_wipe_stack();
@@ -257,6 +258,7 @@ const EMPTY: ffi::Info = ffi::Info {
     max_tag_size: 0,
     min_key_size: 0,
     max_key_size: 0,
+    tag_size: 0,
 };
 
 /// What is told of every driver.
@@ -305,7 +307,7 @@ impl Transform {
 
     pub fn info(&mut self) -> Result<Info, Errno> {
         let mut info = EMPTY;
-        done(unsafe { ffi::perdoaze_raw_info(&mut self.0, &mut info) })?;
+        done(unsafe { ffi::perdoaze_raw_get_info(&mut self.0, &mut info) })?;
         Ok(Info(info))
     }
 
