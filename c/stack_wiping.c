@@ -5,7 +5,7 @@
 
 __attribute__((noinline)) void perdoaze_wipe_stack(void)
 {
-	uint8_t below[PERDOAZE_STACK_SIZE];
+	uint8_t below[PERDOAZE_SETKEY_STACK_SIZE];
 
 	explicit_bzero(below, sizeof below);
 }

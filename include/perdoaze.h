@@ -29,7 +29,7 @@
  * MEMORY, SIGNALS, FORK. The calls whose comment has -ENOMEM, and those that free, use malloc and free. These may be made where
  * malloc may: not from a signal handler, nor in a forked child of a process with threads, but where the system's malloc allows it.
  * All other calls take no memory and may be made there too, on structs that no call which was interrupted is changing. A call
- * takes at most PERDOAZE_STACK_SIZE bytes of stack.
+ * takes at most PERDOAZE_STACK_SIZE bytes of stack; perdoaze_setkey at most PERDOAZE_SETKEY_STACK_SIZE.
  *
  * SECRETS. Keys, and what is made of them, lie in blocks of malloc that are wiped before they are freed. The stack is wiped by
  * perdoaze_wipe_stack alone, since that takes longer than a short request. Registers and swapped pages aren't wiped.
@@ -90,8 +90,9 @@ struct perdoaze {
 /** Several pieces of at most so many bytes together are changed in their place without memory of malloc. One piece never takes any. */
 #define PERDOAZE_ON_STACK 4160
 
-/** The most bytes of stack that a call takes. */
-#define PERDOAZE_STACK_SIZE 49152
+/** The most bytes of stack that a call takes, and that perdoaze_setkey takes. */
+#define PERDOAZE_STACK_SIZE 16384
+#define PERDOAZE_SETKEY_STACK_SIZE 49152
 
 /** The bytes of a name in struct perdoaze_info, with a zero at least behind it. */
 #define PERDOAZE_NAME_SIZE 128
@@ -158,7 +159,7 @@ struct perdoaze_request {
 
 /** Makes the transform of that name, with no key and the greatest tag, in the place of the one that was there. By the name of an
  *  algorithm it is that of the driver of greatest priority, whose memory accesses depend on no key and no text. By the name of a
- *  driver it is exactly that one. -ENOENT: no driver has the name. -EINVAL: `name` is NULL, or no name of at most 127 bytes, 8
+ *  driver it is exactly that one. `pcrypt(X)`, `cryptd(X)` and `cryptd(pcrypt(X))` are X. -ENOENT: no driver has the name. -EINVAL: `name` is NULL, or no name of at most 127 bytes, 8
  *  levels and 4 arguments. -ENOMEM. Where the call fails, the place has none. */
 PERDOAZE_API int perdoaze_init(struct perdoaze *tfm, const char *name);
 
@@ -201,18 +202,20 @@ PERDOAZE_API int perdoaze_decrypt(struct perdoaze *tfm, const void *iv, size_t i
 PERDOAZE_API int perdoaze_digest(struct perdoaze *tfm, const void *text, size_t text_len, void *out, size_t out_len,
 				 size_t *written);
 
-/** As perdoaze_encrypt, of a text in pieces, PERDOAZE_MAX_PIECES at most. A piece of 0 bytes may be NULL. No piece lies in `out`. */
+/** As perdoaze_encrypt, of a text in pieces, PERDOAZE_MAX_PIECES at most. A piece of 0 bytes may be NULL. No piece lies in `out`.
+ *  -ENOMEM: a piece is NULL, more than 32 aren't, and malloc gave nothing for a list of these. */
 PERDOAZE_API int perdoaze_encryptv(struct perdoaze *tfm, const void *iv, size_t iv_len, const void *aad, size_t aad_len,
 				   const struct iovec *text, size_t pieces, void *out, size_t out_len, size_t *written);
 
-/** As perdoaze_decrypt, of a text in pieces as perdoaze_encryptv takes them. */
+/** As perdoaze_decrypt, of a text in pieces as perdoaze_encryptv takes them. -ENOMEM as there. */
 PERDOAZE_API int perdoaze_decryptv(struct perdoaze *tfm, const void *iv, size_t iv_len, const void *aad, size_t aad_len,
 				   const struct iovec *text, size_t pieces, void *out, size_t out_len, size_t *written);
 
 /** As perdoaze_encrypt_in_place, where the buffer lies in pieces: its first `n` bytes are encrypted, and the tag goes behind them. No two
  *  pieces have a byte in common. One piece is worked where it lies. Several are copied, and copied back: to the stack where they have at
  *  most PERDOAZE_ON_STACK bytes together. Where they have more, GCM, RFC 4106, CTR, RFC 3686, CBC, and authenc over the last three,
- *  go over them where they lie. -ENOMEM: CCM, XTS, authenc over it, or a request that isn't taken, and malloc gave nothing for the copy. */
+ *  go over them where they lie. -ENOMEM: CCM, XTS, authenc over it, or a request that isn't taken, and malloc gave nothing for the copy;
+ *  or as perdoaze_encryptv has it. */
 PERDOAZE_API int perdoaze_encryptv_in_place(struct perdoaze *tfm, const void *iv, size_t iv_len, const void *aad,
 					    size_t aad_len, const struct iovec *buffer, size_t pieces, size_t n,
 					    size_t *written);
@@ -228,7 +231,7 @@ PERDOAZE_API int perdoaze_decryptv_in_place(struct perdoaze *tfm, const void *iv
  *  what another one has. */
 PERDOAZE_API int perdoaze_encrypt_many(struct perdoaze *tfm, struct perdoaze_request *requests, size_t count);
 
-/** As perdoaze_digest, of a text in pieces, PERDOAZE_MAX_PIECES at most. They are read where they lie. */
+/** As perdoaze_digest, of a text in pieces as perdoaze_encryptv takes them. They are read where they lie. -ENOMEM as there. */
 PERDOAZE_API int perdoaze_digestv(struct perdoaze *tfm, const struct iovec *text, size_t pieces, void *out,
 				  size_t out_len, size_t *written);
 
@@ -380,7 +383,7 @@ PERDOAZE_API int perdoaze_compare(const void *a, const void *b, size_t n);
 /** Overwrites the bytes with zeros, also where they aren't read again. */
 PERDOAZE_API void perdoaze_wipe(void *bytes, size_t n);
 
-/** Overwrites PERDOAZE_STACK_SIZE bytes of the stack below its caller's frame. Made by the function that made other calls of the library,
+/** Overwrites PERDOAZE_SETKEY_STACK_SIZE bytes of the stack below its caller's frame. Made by the function that made other calls of the library,
  *  it leaves nothing there of what these computed with. Registers aren't wiped. */
 PERDOAZE_API void perdoaze_wipe_stack(void);
 
