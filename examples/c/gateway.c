@@ -14,6 +14,7 @@
 #include <errno.h>
 #include <stdio.h>
 #include <stdlib.h>
+#include <string.h>
 
 #define TUNNELS 64
 #define LONGEST (1 << 20)
@@ -228,7 +229,7 @@ static void add_tunnel(const char *word)
 	const char *name = strchr(word, '='), *key = name ? strchr(name + 1, '=') : NULL, *tag = key ? strchr(key + 1, '=') : NULL;
 	char text[128] = { 0 };
 	uint8_t bytes[512];
-	struct perdoaze_info info;
+	struct perdoaze_info info = PERDOAZE_INFO;
 	size_t n;
 
 	if (!key || tunnel_count == TUNNELS || (size_t)(key - name) > sizeof text || read_hex(word, tunnel->index, 4) != 4)
@@ -236,7 +237,7 @@ static void add_tunnel(const char *word)
 	memcpy(text, name + 1, (size_t)(key - name) - 1);
 	n = read_hex(key + 1, bytes, sizeof bytes);
 	if (perdoaze_init(&tunnel->tfm, text) || perdoaze_setkey(&tunnel->tfm, bytes, n)
-	    || (tag && perdoaze_setauthsize(&tunnel->tfm, (uint32_t)strtoul(tag + 1, NULL, 10))) || perdoaze_info(&tunnel->tfm, &info)
+	    || (tag && perdoaze_setauthsize(&tunnel->tfm, (uint32_t)strtoul(tag + 1, NULL, 10))) || perdoaze_get_info(&tunnel->tfm, &info)
 	    || HEADER + info.iv_size > MOST_FRONT)
 		die("the tunnel's name, key or tag isn't taken");
 	tunnel->iv_size = info.iv_size;

@@ -5,6 +5,7 @@
 #include <perdoaze.h>
 #include <stdio.h>
 #include <stdlib.h>
+#include <string.h>
 
 void __real_free(void *block);
 void __wrap_free(void *block);
@@ -28,13 +29,13 @@ void __wrap_free(void *block)
 static int use(const char *driver)
 {
 	struct perdoaze t = PERDOAZE_NONE, u = PERDOAZE_NONE;
-	struct perdoaze_info info;
+	struct perdoaze_info info = PERDOAZE_INFO;
 	uint8_t key[64] = { 8, 0, 1, 0, 0, 0, 0, 16 }, iv[16] = { 1 }, text[4096] = { 7 }, out[4200];
 	const struct iovec pieces[2] = { { text, 96 }, { text + 96, 4000 } };
 	size_t n = 0;
 
 	memset(key + 8, 0xa5, 56);
-	if (perdoaze_init(&t, driver) || perdoaze_info(&t, &info))
+	if (perdoaze_init(&t, driver) || perdoaze_get_info(&t, &info))
 		return 1;
 	n = info.min_key_size ? info.min_key_size : 40;
 	/* in authenc's blob the number of bytes of the cipher's key, which is all that stands behind the first 8 bytes */
@@ -57,12 +58,12 @@ static int use(const char *driver)
 
 int main(void)
 {
-	struct perdoaze_info info;
+	struct perdoaze_info info = PERDOAZE_INFO;
 	size_t i = 0;
 
 	for (; perdoaze_list(i, &info) == 0; i++)
-		if (use((const char *)info.driver)) {
-			printf("%s: a call failed\n", (const char *)info.driver);
+		if (use(info.driver)) {
+			printf("%s: a call failed\n", info.driver);
 			return 1;
 		}
 	printf("%zu drivers, %u blocks freed, %u of them not wiped\n", i, seen, dirty);

@@ -22,7 +22,7 @@ static unsigned draw(unsigned n)
 
 static int fail(const struct perdoaze_info *info, size_t n, const char *what)
 {
-	printf("%s, %zu bytes: %s\n", (const char *)info->driver, n, what);
+	printf("%s, %zu bytes: %s\n", info->driver, n, what);
 	return 1;
 }
 
@@ -89,7 +89,7 @@ static int each(const struct perdoaze_info *info)
 	struct perdoaze tfm = PERDOAZE_NONE;
 	int wrong = 0;
 
-	if (perdoaze_init(&tfm, (const char *)info->driver) || perdoaze_setkey(&tfm, key, size))
+	if (perdoaze_init(&tfm, info->driver) || perdoaze_setkey(&tfm, key, size))
 		return fail(info, 0, "no key");
 	for (int i = 0; i < ROUNDS && !wrong; i++)
 		wrong = compare(&tfm, info, draw(4) ? 4000 + draw(9000) : draw(3) ? draw(300) : 16 * draw(4000));
@@ -137,7 +137,7 @@ static int speed(void)
 
 int main(int argc, char **argv)
 {
-	struct perdoaze_info info;
+	struct perdoaze_info info = PERDOAZE_INFO;
 
 	(void)argv;
 	if (argc > 1)

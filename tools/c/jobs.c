@@ -3,6 +3,7 @@
 #include <errno.h>
 #include <perdoaze.h>
 #include <stdio.h>
+#include <string.h>
 
 #define MOST PERDOAZE_MAX_WORKERS
 #define LONGEST 1600

@@ -3,6 +3,7 @@
 #include <perdoaze.h>
 #include <stdio.h>
 #include <stdlib.h>
+#include <string.h>
 
 #define MOST 21
 #define ROOM 2100
@@ -30,7 +31,7 @@ static void make(size_t i, const struct perdoaze_info *info, unsigned wrong)
 	struct perdoaze_request *r = &requests[i];
 	size_t n = 16 * draw(draw(3) ? 8 : 128);
 
-	*r = (struct perdoaze_request){ ivs[i], info->iv_size, aads[i], info->kind == PERDOAZE_AEAD ? 16 : 0, many[i], ROOM, n, 7, 7 };
+	*r = (struct perdoaze_request){ sizeof *r, ivs[i], info->iv_size, aads[i], info->kind == PERDOAZE_AEAD ? 16 : 0, many[i], ROOM, n, 7, 7 };
 	fill(ivs[i], 16);
 	ivs[i][0] = 1;
 	fill(aads[i], 64);
@@ -60,7 +61,7 @@ static void make(size_t i, const struct perdoaze_info *info, unsigned wrong)
 		r->aad_len = PTRDIFF_MAX + (size_t)1;
 		break;
 	case 7:
-		*r = (struct perdoaze_request){ ivs[i], info->iv_size, NULL, 0, NULL, 0, 0, 7, 7 };
+		*r = (struct perdoaze_request){ sizeof *r, ivs[i], info->iv_size, NULL, 0, NULL, 0, 0, 7, 7 };
 		break;
 	default:
 		r->aad = many[i] + 5;
@@ -90,11 +91,11 @@ static int compare(struct perdoaze *tfm, size_t count, int first)
 static int try_driver(const char *driver, unsigned wrong)
 {
 	struct perdoaze tfm = PERDOAZE_NONE;
-	struct perdoaze_info info;
+	struct perdoaze_info info = PERDOAZE_INFO;
 	uint8_t key[64] = { 8, 0, 1, 0, 0, 0, 0, 16, 5 };
 	size_t key_len;
 
-	if (perdoaze_init(&tfm, driver) || perdoaze_info(&tfm, &info))
+	if (perdoaze_init(&tfm, driver) || perdoaze_get_info(&tfm, &info))
 		return printf("%s: isn't made\n", driver);
 	key_len = info.min_key_size ? info.min_key_size : 40;
 	key[7] = (uint8_t)(key_len - 8);
@@ -127,7 +128,7 @@ static int tangled(void)
 	if (perdoaze_init(&tfm, "cbc(aes)") || perdoaze_setkey(&tfm, key, 16))
 		return 1;
 	for (int i = 0; i < 2; i++) {
-		two[i] = (struct perdoaze_request){ iv, 16, NULL, 0, one + 16 * i, 64, 64, 7, 7 };
+		two[i] = (struct perdoaze_request){ sizeof *two, iv, 16, NULL, 0, one + 16 * i, 64, 64, 7, 7 };
 		if (perdoaze_encrypt_in_place(&tfm, iv, 16, NULL, 0, other + 16 * i, 64, 64, &n) || n != 64)
 			return 1;
 	}
@@ -145,11 +146,11 @@ static int tangled(void)
 
 int main(void)
 {
-	struct perdoaze_info info;
+	struct perdoaze_info info = PERDOAZE_INFO;
 
 	for (size_t i = 0; perdoaze_list(i, &info) == 0; i++)
 		for (unsigned wrong = 0; wrong < 2; wrong++)
-			if (try_driver((const char *)info.driver, wrong ? 9 : 10000))
+			if (try_driver(info.driver, wrong ? 9 : 10000))
 				return 1;
 	if (tangled())
 		return 1;

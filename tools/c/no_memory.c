@@ -4,6 +4,7 @@
 #include <perdoaze.h>
 #include <stdio.h>
 #include <stdlib.h>
+#include <string.h>
 
 #define DRIVER "authenc(hmac(sha256-generic),cbc(aes-lanes))"
 /* one that doesn't go over pieces */
@@ -84,6 +85,35 @@ static long digests(const char *name)
 	return took;
 }
 
+/* How many mallocs the requests over more than 32 pieces take where one is NULL, or -1. Where malloc fails, nothing happens. */
+static long null_pieces(void)
+{
+	struct perdoaze tfm = PERDOAZE_NONE;
+	static uint8_t bytes[40 * 16], out[40 * 16];
+	struct iovec buffer[41];
+	size_t n = 7;
+
+	for (size_t i = 0; i < 40; i++)
+		buffer[i] = (struct iovec){ bytes + 16 * i, 16 };
+	buffer[40] = (struct iovec){ NULL, 0 };
+	if (perdoaze_init(&tfm, "ctr(aes)") || perdoaze_setkey(&tfm, key, 16))
+		return -1;
+	left = 0;
+	if (perdoaze_encryptv(&tfm, iv, 16, NULL, 0, buffer, 41, out, sizeof out, &n) != -ENOMEM || n || out[0])
+		return -1;
+	left = 0;
+	if (perdoaze_encryptv_in_place(&tfm, iv, 16, NULL, 0, buffer, 41, sizeof bytes, &n) != -ENOMEM || bytes[0])
+		return -1;
+	left = -1;
+	used = 0;
+	if (perdoaze_encryptv(&tfm, iv, 16, NULL, 0, buffer, 41, out, sizeof out, &n) || n != sizeof out)
+		return -1;
+	if (perdoaze_encryptv_in_place(&tfm, iv, 16, NULL, 0, buffer, 41, sizeof bytes, &n) || memcmp(bytes, out, sizeof out))
+		return -1;
+	perdoaze_free(&tfm);
+	return used;
+}
+
 static bool answers(struct perdoaze *tfm, const uint8_t *first)
 {
 	uint8_t out[64];
@@ -108,7 +138,7 @@ int main(void)
 	used = 0;
 	if (perdoaze_encrypt(&t, iv, 16, text, 20, text, 32, first, 64, NULL))
 		return fail("encrypt", -1);
-	if (perdoaze_encrypt_many(&t, &(struct perdoaze_request){ iv, 16, text, 20, out, 64, 32, 0, 0 }, 1))
+	if (perdoaze_encrypt_many(&t, &(struct perdoaze_request){ sizeof(struct perdoaze_request), iv, 16, text, 20, out, 64, 32, 0, 0 }, 1))
 		return fail("encrypt_many", -1);
 	requests = used;
 	used = 0;
@@ -128,6 +158,8 @@ int main(void)
 	macs = digests("hmac(sha256)") + digests("cmac(aes)");
 	if (few || many || walked || copied < 1 || macs)
 		return fail("pieces", copied);
+	if (null_pieces() != 2)
+		return fail("pieces that are NULL", -1);
 	for (long i = 0; i < keys; i++) {
 		left = i;
 		if (perdoaze_setkey(&t, other, sizeof other) != -ENOMEM || (left = -1, !answers(&t, first)))

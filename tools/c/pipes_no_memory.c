@@ -4,6 +4,7 @@
 #include <perdoaze.h>
 #include <stdio.h>
 #include <stdlib.h>
+#include <string.h>
 
 void *__real_malloc(size_t n);
 void *__wrap_malloc(size_t n);

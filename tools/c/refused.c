@@ -1,7 +1,9 @@
 /* What each call refuses, and what it leaves then. Ends with status 1 at the first check that fails, and says which. */
 #include <errno.h>
+#include <limits.h>
 #include <perdoaze.h>
 #include <stdio.h>
+#include <string.h>
 
 #define CHECK(holds) \
 	do { \
@@ -30,6 +32,9 @@ static int names(void)
 	CHECK(perdoaze_init(&t, "") == -EINVAL && perdoaze_init(&t, NULL) == -EINVAL && perdoaze_init(NULL, "gcm(aes)") == -EINVAL);
 	CHECK(perdoaze_init(&t, "aes-lanes") == -ENOENT);
 	CHECK(perdoaze_init(&t, "pcrypt(gcm_base(ctr(aes-table),ghash-generic))") == 0);
+	CHECK(perdoaze_init(&t, "pcrypt(gcm(aes))") == 0 && perdoaze_init(&t, "cryptd(pcrypt(hmac(sha256)))") == 0);
+	CHECK(perdoaze_init(&t, "cryptd(authenc(hmac(sha256),rfc3686(ctr(aes))))") == 0 && perdoaze_init(&t, "pcrypt(cryptd(gcm(aes)))") == -ENOENT);
+	CHECK(perdoaze_init(&t, "pcrypt(gcm(aes)") == -EINVAL && perdoaze_init(&t, "pcrypt()") == -EINVAL && perdoaze_init(&t, "pcrypt(") == -EINVAL);
 	perdoaze_free(&t);
 	perdoaze_free(&t);
 	perdoaze_free(NULL);
@@ -193,23 +198,108 @@ static int duplicates(void)
 	return 0;
 }
 
+static int answer_sizes(void)
+{
+	struct perdoaze t = PERDOAZE_NONE;
+	struct perdoaze_info info = PERDOAZE_INFO;
+	size_t n = 7;
+
+	CHECK(perdoaze_outlen(&t, PERDOAZE_ENCRYPT, 5, &n) == -EINVAL && n == 0 && perdoaze_outlen(NULL, PERDOAZE_ENCRYPT, 5, &n) == -EINVAL);
+	CHECK(perdoaze_init(&t, "gcm(aes)") == 0 && perdoaze_outlen(&t, PERDOAZE_ENCRYPT, 5, NULL) == -EINVAL);
+	CHECK(perdoaze_outlen(&t, PERDOAZE_ENCRYPT, 5, &n) == 0 && n == 21 && perdoaze_outlen(&t, PERDOAZE_DECRYPT, 21, &n) == 0 && n == 5);
+	CHECK(perdoaze_outlen(&t, PERDOAZE_DECRYPT, 15, &n) == -EINVAL && n == 0 && perdoaze_outlen(&t, PERDOAZE_DIGEST, 5, &n) == -EINVAL);
+	CHECK(perdoaze_outlen(&t, 4, 5, &n) == -EINVAL && perdoaze_outlen(&t, PERDOAZE_ENCRYPT, PTRDIFF_MAX - 15, &n) == -EINVAL);
+	CHECK(perdoaze_outlen(&t, PERDOAZE_ENCRYPT, PTRDIFF_MAX - 16, &n) == 0 && n == PTRDIFF_MAX);
+	CHECK(perdoaze_outlen(&t, PERDOAZE_DECRYPT, SIZE_MAX, &n) == -EINVAL);
+	CHECK(perdoaze_setauthsize(&t, 12) == 0 && perdoaze_outlen(&t, PERDOAZE_ENCRYPT, 5, &n) == 0 && n == 17);
+	CHECK(perdoaze_get_info(&t, &info) == 0 && info.tag_size == 12 && info.max_tag_size == PERDOAZE_GCM_TAG_SIZE);
+	CHECK(perdoaze_init(&t, "xts(aes)") == 0 && perdoaze_outlen(&t, PERDOAZE_DECRYPT, 33, &n) == 0 && n == 33);
+	CHECK(perdoaze_init(&t, "cmac(aes)") == 0 && perdoaze_outlen(&t, PERDOAZE_DIGEST, SIZE_MAX, &n) == 0 && n == PERDOAZE_CMAC_SIZE);
+	CHECK(perdoaze_outlen(&t, PERDOAZE_ENCRYPT, 5, &n) == -EINVAL);
+	info.size--;
+	CHECK(perdoaze_get_info(&t, &info) == -EINVAL && perdoaze_list(0, &info) == -EINVAL);
+	info.size += 2;
+	CHECK(perdoaze_get_info(&t, &info) == -E2BIG && perdoaze_list(0, &info) == -E2BIG && info.max_tag_size == PERDOAZE_GCM_TAG_SIZE);
+	perdoaze_free(&t);
+	return 0;
+}
+
+/* The header's sizes are those that are told. */
+static int constants(void)
+{
+	static const struct {
+		const char *name;
+		uint32_t iv, tag;
+	} sizes[] = {
+		{ "cbc(aes)", PERDOAZE_CBC_IV_SIZE, 0 },
+		{ "ctr(aes)", PERDOAZE_CTR_IV_SIZE, 0 },
+		{ "rfc3686(ctr(aes))", PERDOAZE_RFC3686_IV_SIZE, 0 },
+		{ "xts(aes)", PERDOAZE_XTS_IV_SIZE, 0 },
+		{ "gcm(aes)", PERDOAZE_GCM_IV_SIZE, PERDOAZE_GCM_TAG_SIZE },
+		{ "rfc4106(gcm(aes))", PERDOAZE_RFC4106_IV_SIZE, PERDOAZE_RFC4106_TAG_SIZE },
+		{ "ccm(aes)", PERDOAZE_CCM_IV_SIZE, PERDOAZE_CCM_TAG_SIZE },
+		{ "hmac(sha256)", 0, PERDOAZE_HMAC_SHA256_SIZE },
+		{ "cmac(aes)", 0, PERDOAZE_CMAC_SIZE },
+	};
+	struct perdoaze t = PERDOAZE_NONE;
+	struct perdoaze_info info = PERDOAZE_INFO;
+
+	for (size_t i = 0; i < sizeof sizes / sizeof *sizes; i++) {
+		CHECK(perdoaze_init(&t, sizes[i].name) == 0 && perdoaze_get_info(&t, &info) == 0);
+		CHECK(info.iv_size == sizes[i].iv && info.max_tag_size == sizes[i].tag && info.tag_size == sizes[i].tag);
+	}
+	for (size_t i = 0; perdoaze_list(i, &info) == 0; i++)
+		CHECK(info.iv_size <= PERDOAZE_MAX_IV_SIZE && info.max_tag_size <= PERDOAZE_MAX_TAG_SIZE);
+	perdoaze_free(&t);
+	return 0;
+}
+
+static int library(void)
+{
+	static const int results[] = { ENOENT, E2BIG, EAGAIN, ENOMEM, EBUSY, EINVAL, ENOSPC, EBADMSG, EOVERFLOW, EINPROGRESS, ECANCELED, ENOKEY };
+	uint8_t a[33], b[33];
+
+	CHECK(perdoaze_version() == PERDOAZE_VERSION && !strcmp(perdoaze_strerror(0), "done"));
+	for (size_t i = 0; i < sizeof results / sizeof *results; i++) {
+		CHECK(!strcmp(perdoaze_strerror(results[i]), perdoaze_strerror(-results[i])));
+		CHECK(strcmp(perdoaze_strerror(results[i]), perdoaze_strerror(1)));
+	}
+	CHECK(!strcmp(perdoaze_strerror(INT_MIN), perdoaze_strerror(1)));
+	for (size_t n = 0; n <= sizeof a; n++) {
+		memset(a, 9, sizeof a);
+		memset(b, 9, sizeof b);
+		CHECK(perdoaze_compare(a, b, n) == 0);
+		for (size_t i = 0; i < sizeof b; i++) {
+			b[i] ^= (uint8_t)(1 << i % 8);
+			CHECK(perdoaze_compare(a, b, n) == (i < n ? -EBADMSG : 0));
+			b[i] = 9;
+		}
+	}
+	CHECK(perdoaze_compare(NULL, NULL, 0) == 0 && perdoaze_compare(NULL, a, 1) == -EINVAL && perdoaze_compare(a, a, SIZE_MAX) == -EINVAL);
+	perdoaze_wipe(a, 32);
+	CHECK(is_all(a, 32, 0) && a[32] == 9);
+	perdoaze_wipe(NULL, 0);
+	perdoaze_wipe(NULL, 5);
+	return 0;
+}
+
 static int infos(void)
 {
 	struct perdoaze t = PERDOAZE_NONE;
-	struct perdoaze_info info, listed;
+	struct perdoaze_info info = PERDOAZE_INFO, listed = PERDOAZE_INFO;
 	size_t n = 0;
 
-	CHECK(perdoaze_info(&t, &info) == -EINVAL && perdoaze_info(NULL, &info) == -EINVAL && perdoaze_info(&t, NULL) == -EINVAL);
+	CHECK(perdoaze_get_info(&t, &info) == -EINVAL && perdoaze_get_info(NULL, &info) == -EINVAL && perdoaze_get_info(&t, NULL) == -EINVAL);
 	for (; perdoaze_list(n, &listed) == 0; n++) {
-		const char *driver = (const char *)listed.driver;
+		const char *driver = listed.driver;
 
-		CHECK(perdoaze_init(&t, driver) == 0 && perdoaze_info(&t, &info) == 0 && !memcmp(&info, &listed, sizeof info));
-		CHECK(perdoaze_init(&t, (const char *)listed.name) == 0 && perdoaze_info(&t, &info) == 0);
+		CHECK(perdoaze_init(&t, driver) == 0 && perdoaze_get_info(&t, &info) == 0 && !memcmp(&info, &listed, sizeof info));
+		CHECK(perdoaze_init(&t, listed.name) == 0 && perdoaze_get_info(&t, &info) == 0);
 		CHECK(!memcmp(info.name, listed.name, sizeof info.name) && info.priority >= listed.priority);
 	}
 	CHECK(n == 43 && perdoaze_list(SIZE_MAX, &listed) == -ENOENT && perdoaze_list(0, NULL) == -EINVAL);
-	CHECK(perdoaze_init(&t, "gcm(aes)") == 0 && perdoaze_info(&t, &info) == 0);
-	CHECK(!strcmp((const char *)info.driver, "gcm_base(ctr(aes-lanes),ghash-table)") && info.kind == PERDOAZE_AEAD);
+	CHECK(perdoaze_init(&t, "gcm(aes)") == 0 && perdoaze_get_info(&t, &info) == 0);
+	CHECK(!strcmp(info.driver, "gcm_base(ctr(aes-lanes),ghash-table)") && info.kind == PERDOAZE_AEAD);
 	CHECK(info.iv_size == 12 && info.max_tag_size == 16 && info.min_key_size == 16 && info.max_key_size == 32 && info.block_size == 1);
 	perdoaze_free(&t);
 	return 0;
@@ -217,5 +307,6 @@ static int infos(void)
 
 int main(void)
 {
-	return names() || settings() || requests() || pieces() || pieces_in_place() || duplicates() || infos();
+	return names() || settings() || requests() || pieces() || pieces_in_place() || duplicates() || infos() || answer_sizes() || constants()
+	       || library();
 }

@@ -151,7 +151,7 @@ static void many(struct perdoaze *tfm, const struct row *row, size_t size)
 		exit(2);
 	memset(room, 0x5a, SEVERAL * (size + SPARE));
 	for (size_t i = 0; i < SEVERAL; i++) {
-		requests[i] = (struct perdoaze_request){ row->iv.at, row->iv.n, row->aad.at, row->aad.n, room + i * (size + SPARE), size,
+		requests[i] = (struct perdoaze_request){ sizeof *requests, row->iv.at, row->iv.n, row->aad.at, row->aad.n, room + i * (size + SPARE), size,
 							 row->text.n, 7, 7 };
 		memcpy(requests[i].buffer, row->text.at, row->text.n);
 	}
@@ -188,7 +188,7 @@ static void without_room(struct perdoaze *tfm, const struct row *row, uint8_t *o
 static bool begin(struct perdoaze *tfm, char **fields)
 {
 	struct bytes key = unhex(fields[1]);
-	struct perdoaze_info info;
+	struct perdoaze_info info = PERDOAZE_INFO;
 	int got = perdoaze_init(tfm, fields[0]);
 
 	if (got)
@@ -200,7 +200,7 @@ static bool begin(struct perdoaze *tfm, char **fields)
 		fail("setkey", got);
 	if (got)
 		return false;
-	got = perdoaze_info(tfm, &info);
+	got = perdoaze_get_info(tfm, &info);
 	if (got || strcmp((char *)info.driver, fields[0]))
 		fail("info", got);
 	if (info.kind == PERDOAZE_AEAD || !strcmp(fields[7], "no-tag-size"))

@@ -9,6 +9,7 @@
 #include <perdoaze.h>
 #include <stdio.h>
 #include <stdlib.h>
+#include <string.h>
 #include <time.h>
 
 #define GREATEST (1 << 20)
@@ -49,7 +50,7 @@ static int ask_ours(const struct algorithm *a, size_t n)
 
 	if (a->eight) {
 		for (int i = 0; i < EIGHT; i++)
-			requests[i] = (struct perdoaze_request){ iv, a->iv_size, aad, a->aad_size, eight[i], sizeof eight[i], n, 0, 0 };
+			requests[i] = (struct perdoaze_request){ sizeof *requests, iv, a->iv_size, aad, a->aad_size, eight[i], sizeof eight[i], n, 0, 0 };
 		return perdoaze_encrypt_many(&tfm, requests, EIGHT);
 	}
 	if (a->opens)

@@ -2,6 +2,7 @@
 #include <perdoaze.h>
 #include <pthread.h>
 #include <stdio.h>
+#include <string.h>
 
 #define THREADS 8
 #define ROUNDS 200

@@ -1,6 +1,7 @@
-//! What C calls. No pointer is NULL here, not even beside the length 0: the header's inline functions see to that.
+//! What C calls. No pointer is NULL here, not even beside the length 0: the functions of c/ see to that.
 
 ghost use Rattle.std.specs.Prelude.{◌≡◌, ◌≢◌, ◌<◌, ℕ, length, map, None};
+ghost use Rattle.perdoaze_calls.specs.Comparison.{ComparesTo};
 ghost use Rattle.perdoaze_calls.specs.Infos.{ListsTo, TellsTo};
 ghost use Rattle.perdoaze_calls.specs.Many.{CameTo, question_of};
 ghost use Rattle.perdoaze_calls.specs.Names.{BeginsTo};
@@ -11,7 +12,7 @@ ghost use Rattle.perdoaze_calls.specs.Settings.{KeySetTo, SizeSetTo, DuplicatesT
 ghost use Rattle.perdoaze_calls.specs.Status.{code_of};
 ghost use Rattle.perdoaze_calls.specs.declared.status.Status.TheVariants as Status;
 
-use perdoaze_calls::{Encryption, Info, Piece, PieceMut, Slot, calls, init, list, tell};
+use perdoaze_calls::{Encryption, Info, Piece, PieceMut, Slot, calls, compare, init, list, tell};
 use std::alloc::Global;
 
 /// Makes the transform of a name in the place, in place of the one that was there.
@@ -238,7 +239,7 @@ pub extern "C" fn perdoaze_raw_dup(from: &mut Slot, alloc: Global, into: &mut Sl
 
 /// What is told of the transform in the place.
 #[unsafe(no_mangle)]
-pub extern "C" fn perdoaze_raw_info(slot: &mut Slot, alloc: Global, info: &mut Info) -> i32
+pub extern "C" fn perdoaze_raw_get_info(slot: &mut Slot, alloc: Global, info: &mut Info) -> i32
     ensures kept { slot.new.handle.value ≡ slot.old.handle.value }
     ensures told { TellsTo slot.old.handle.value result info.old info.new }
 {
@@ -259,4 +260,12 @@ pub extern "C" fn perdoaze_raw_free(slot: &mut Slot, alloc: Global)
     ensures { slot.new.handle.value ≡ None }
 {
     calls::free(slot, alloc);
+}
+
+/// Compares two texts.
+#[unsafe(no_mangle)]
+pub extern "C" fn perdoaze_raw_compare(a: &[u8], b: &[u8]) -> i32
+    ensures { ComparesTo a.now b.now result }
+{
+    compare(a, b).code()
 }

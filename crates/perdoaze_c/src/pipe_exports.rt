@@ -1,4 +1,4 @@
-//! What C calls of pipes. No pointer is NULL here: the header's inline functions see to that.
+//! What C calls of pipes. No pointer is NULL here: the functions of c/ see to that.
 
 ghost use Rattle.std.specs.Prelude.{◌≡◌, ⊤, None};
 ghost use Rattle.perdoaze_pipes.specs.Calls.{OnPipe, TakesInto, RunsIn, RunsEach, FinishesFrom, SubmitsBy, Drains, To};

@@ -120,7 +120,14 @@ greatest_key (AuthencXts aes) = no_limit
 abbrev pub padded : List ℕ → List ℕ
 padded text = text ++ replicate (128 - length text) 0
 
-pub record IsInfo (i : Info) (p : Plan) : Type 0 where
+-- the bytes of the tag that is set, or of the MAC
+abbrev pub told_tag : Plan → ℕ → ℕ
+told_tag Hmac n = mac_size Hmac
+told_tag (Cmac aes) n = mac_size (Cmac aes)
+told_tag _ n = n
+
+-- a driver's, with a tag of n bytes
+pub record IsInfo (i : Info) (p : Plan) (n : ℕ) : Type 0 where
   pub name : i.name ≡ padded (algorithm_of p)
   pub driver : i.driver ≡ padded (spelling (driver_of p))
   pub priority : i.priority ≡ priority_of p
@@ -130,6 +137,7 @@ pub record IsInfo (i : Info) (p : Plan) : Type 0 where
   pub tag : i.max_tag_size ≡ tag_size_of p + mac_size p
   pub least : i.min_key_size ≡ least_key p
   pub greatest : i.max_key_size ≡ greatest_key p
+  pub set : i.tag_size ≡ told_tag p n
 
 -- the drivers of each algorithm, those of greatest priority first
 abbrev pub listed : List Plan
@@ -151,12 +159,12 @@ listed =
 
 -- what a call tells of the driver at a place of the list, or of the transform in a place
 abbrev pub Lists : ℕ → Status → Info → Info → Type 0
-Lists i Done old new = (p : Plan) × (slice_get listed i ≡ Some p) × IsInfo new p
+Lists i Done old new = (p : Plan) × (slice_get listed i ≡ Some p) × IsInfo new p (tag_size_of p)
 Lists i NoName old new = (length listed ≤ i) × (new ≡ old)
 Lists i _ old new = ⊥
 
 abbrev pub Tells : Option Transform → Status → Info → Info → Type 0
-Tells (Some t) Done old new = IsInfo new t.plan
+Tells (Some t) Done old new = IsInfo new t.plan t.authsize
 Tells None Invalid old new = new ≡ old
 Tells _ _ old new = ⊥
 

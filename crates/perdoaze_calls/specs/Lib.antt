@@ -1,3 +1,4 @@
+pub mod Comparison
 pub mod Infos
 pub mod Laws
 pub mod Many

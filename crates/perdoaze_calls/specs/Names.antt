@@ -1,5 +1,5 @@
 -- The plan of a name.
-use Rattle.std.specs.Prelude.{◌≡◌, ◌≢◌, ◌⊎◌, ⊤, ℤ, ℕ, if◌then◌else◌, List, Option, Some, None, Result, Ok, Err, codes}
+use Rattle.std.specs.Prelude.{◌≡◌, ◌≢◌, ◌⊎◌, ◌-◌, ⊤, ℤ, ℕ, if◌then◌else◌, nat_lt, List, length, take, drop, Option, Some, None, Result, Ok, Err, codes}
 use Rattle.std.specs.Str.{bytes_eq}
 use Rattle.alg_names.specs.Name.{Tree, IsName}
 use Rattle.alg_names.specs.Refusal.{IsRefusedFor}
@@ -33,6 +33,18 @@ plan_named name =
     (if bytes_eq name (codes "authenc(hmac(sha256),rfc3686(ctr(aes)))") then Some (plan.AuthencRfc3686 AesLanes) else
     (if bytes_eq name (codes "authenc(hmac(sha256),xts(aes))") then Some (plan.AuthencXts AesLanes) else None))))))))))))
 
+-- what stands in "WORD(..)", where the name is so, and otherwise the name; `word` is the front with the bracket, of 7 bytes
+abbrev pub within : List ℕ → List ℕ → List ℕ
+within word name =
+    if nat_lt (length name) 8 then name else
+    (if bytes_eq (take 7 name) word then
+        (if bytes_eq (drop (length name - 8) (drop 7 name)) (codes ")") then take (length name - 8) (drop 7 name) else name)
+    else name)
+
+-- `pcrypt(A)`, `cryptd(A)` and `cryptd(pcrypt(A))`, of an algorithm A, stand for A
+abbrev pub algorithm_in : List ℕ → List ℕ
+algorithm_in name = within (codes "pcrypt(") (within (codes "cryptd(") name)
+
 -- the text spells a driver that has the plan, or one that has none
 abbrev pub IsDriver : List ℕ → Option Plan → Type 0
 IsDriver name p = (t : Tree) × IsName name t × (plan_at t ≡ p)
@@ -49,8 +61,8 @@ Plans name (Err Invalid) = IsNoName name
 Plans name (Err _) = ⊥
 
 abbrev pub PlansBoth : List ℕ → Result Plan Status → Type 0
-PlansBoth name (Ok p) = (plan_named name ≡ Some p) ⊎ ((plan_named name ≡ None) × IsDriver name (Some p))
-PlansBoth name (Err status) = (plan_named name ≡ None) × Plans name (Err status)
+PlansBoth name (Ok p) = (plan_named (algorithm_in name) ≡ Some p) ⊎ ((plan_named (algorithm_in name) ≡ None) × IsDriver name (Some p))
+PlansBoth name (Err status) = (plan_named (algorithm_in name) ≡ None) × Plans name (Err status)
 
 -- a transform of the name's plan, with the largest tag and no key; or none
 abbrev pub Begins : Option Transform → List ℕ → Status → Type 0

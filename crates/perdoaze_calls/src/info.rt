@@ -19,4 +19,6 @@ pub struct Info {
     pub min_key_size: u32,
     /// `u32::MAX` where there is no limit.
     pub max_key_size: u32,
+    /// The bytes of the tag that is set, or of the MAC.
+    pub tag_size: u32,
 }

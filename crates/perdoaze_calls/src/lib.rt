@@ -3,6 +3,7 @@
 #![tactic(auto)]
 
 pub mod calls;
+mod comparison;
 mod direct;
 mod duplicate;
 mod encryption;
@@ -23,6 +24,7 @@ mod status;
 mod transform;
 mod vectored;
 
+pub use comparison::compare;
 pub use encryption::Encryption;
 pub use info::Info;
 pub use loose::Loose;

@@ -2,7 +2,7 @@
 
 ghost use Rattle.std.specs.Prelude.{◌≡◌};
 ghost use Rattle.std.specs.Str.{bytes_eq};
-ghost use Rattle.perdoaze_calls.specs.Names.{plan_named, Plans, PlansBoth, Begins};
+ghost use Rattle.perdoaze_calls.specs.Names.{plan_named, within, algorithm_in, Plans, PlansBoth, Begins};
 
 use crate::slot::Slot;
 use crate::status::Status;
@@ -15,6 +15,28 @@ fn is(name: &[u8], text: &[u8]) -> bool
     ensures { result ≡ bytes_eq name.now text.now }
 {
     name == text
+}
+
+/// What stands in "WORD(..)", where the name is so, and otherwise the name. `word` has the bracket.
+fn within<'a>(name: &'a [u8], word: &[u8]) -> &'a [u8]
+    ensures { result.now ≡ within word.now name.now }
+{
+    if name.len() < 8 {
+        return name;
+    }
+    let (front, rest) = name.split_at(7);
+    let (inner, end) = rest.split_at(name.len() - 8);
+    if !is(front, word) {
+        return name;
+    }
+    if is(end, b")") { inner } else { name }
+}
+
+/// The name of an algorithm, without `pcrypt`, `cryptd` or both around it: they run it at once.
+fn algorithm_in(name: &[u8]) -> &[u8]
+    ensures { result.now ≡ algorithm_in name.now }
+{
+    within(within(name, b"cryptd("), b"pcrypt(")
 }
 
 /// The plan of an algorithm's name: that of its fastest driver.
@@ -70,7 +92,7 @@ fn plan_by_driver(alloc: Global, name: &[u8]) -> Result<Plan, Status>
 fn plan_by_name(alloc: Global, name: &[u8]) -> Result<Plan, Status>
     ensures { PlansBoth name.now result }
 {
-    match plan_by_algorithm(name) {
+    match plan_by_algorithm(algorithm_in(name)) {
         Some(plan) => Ok(plan),
         None => plan_by_driver(alloc, name),
     }

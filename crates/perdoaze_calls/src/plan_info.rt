@@ -7,7 +7,7 @@ ghost use Rattle.templates.specs.declared.driver_plans.Plan.TheVariants as plan;
 ghost use Rattle.transforms.specs.Drivers.{driver_of};
 ghost use Rattle.transforms.specs.InPlace.{mac_size};
 ghost use Rattle.transforms.specs.Plans.{kind_of, iv_size, tag_size_of};
-ghost use Rattle.perdoaze_calls.specs.Infos.{algorithm_of, aes_priority, ghash_priority, priority_of, kind_number, block_size_of, least_key, greatest_key, padded, IsInfo, listed, Lists, Tells};
+ghost use Rattle.perdoaze_calls.specs.Infos.{algorithm_of, aes_priority, ghash_priority, priority_of, kind_number, block_size_of, least_key, greatest_key, told_tag, padded, IsInfo, listed, Lists, Tells};
 
 use crate::info::Info;
 use crate::requests::copy_front;
@@ -319,9 +319,23 @@ fn put_name(place: &mut [u8; 128], name: &[u8])
     copy_front(name, place);
 }
 
-/// What is told of a plan.
-fn tell_plan(plan: &Plan, info: &mut Info)
-    ensures { IsInfo info.new plan.now }
+/// The bytes of the tag that is set, or of the MAC.
+fn told_tag(plan: &Plan, authsize: u32) -> u32
+    ensures { result ≡ told_tag plan.now authsize }
+{
+    match *plan {
+        Plan::Hmac => 32,
+        Plan::Cmac(_) => 16,
+        Plan::Cbc(_) | Plan::Ctr(_) | Plan::Rfc3686(_) | Plan::Xts(_) => authsize,
+        Plan::Gcm(..) | Plan::Rfc4106(..) | Plan::Ccm(_) => authsize,
+        Plan::AuthencCbc(_) | Plan::AuthencCtr(_) => authsize,
+        Plan::AuthencRfc3686(_) | Plan::AuthencXts(_) => authsize,
+    }
+}
+
+/// What is told of a plan, and of the size of its tag.
+fn tell_plan(plan: &Plan, authsize: u32, info: &mut Info)
+    ensures { IsInfo info.new plan.now authsize }
 {
     put_name(&mut info.name, algorithm_of(plan));
     put_name(&mut info.driver, driver_of(plan));
@@ -332,6 +346,7 @@ fn tell_plan(plan: &Plan, info: &mut Info)
     info.max_tag_size = tag_size_of(plan);
     info.min_key_size = least_key(plan);
     info.max_key_size = greatest_key(plan);
+    info.tag_size = told_tag(plan, authsize);
 }
 
 /// How many drivers there are.
@@ -396,7 +411,8 @@ pub fn list(index: usize, info: &mut Info) -> Status
     if index >= DRIVERS {
         return Status::NoName;
     }
-    tell_plan(&driver_at(index), info);
+    let plan = driver_at(index);
+    tell_plan(&plan, largest_tag_size(&plan), info);
     Status::Done
 }
 
@@ -408,7 +424,7 @@ pub fn tell(slot: &mut Slot, alloc: Global, info: &mut Info) -> Status
     let Some(held) = slot.take(alloc) else {
         return Status::Invalid;
     };
-    tell_plan(&held.plan, info);
+    tell_plan(&held.plan, held.authsize, info);
     slot.fill(held);
     Status::Done
 }

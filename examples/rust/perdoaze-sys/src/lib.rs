@@ -1,253 +1,38 @@
-//! The transforms of perdoaze, for Rust. `ffi` has the C functions, and [`Transform`] is safe.
-//!
-//! ```
-//! use perdoaze_sys::{Errno, Transform};
-//!
-//! fn main() -> Result<(), Errno> {
-//!     let mut gcm = Transform::new("gcm(aes)")?;
-//!     gcm.set_key(b"0123456789abcdef")?;
-//!     let mut sealed = [0; 5 + 16];
-//!     gcm.encrypt(&[0; 12], b"header", b"hello", &mut sealed)?;
-//!     let mut opened = [0; 5];
-//!     assert_eq!(gcm.decrypt(&[0; 12], b"header", &sealed, &mut opened)?, 5);
-//!     assert_eq!(&opened, b"hello");
-//!     Ok(())
-//! }
-//! ```
+//! The functions of include/perdoaze.h, as they are: each says there what it takes, and what its errors are. The crate `perdoaze`
+//! stands over them, and is safe.
 
-use std::fmt;
-use std::io::{IoSlice, IoSliceMut};
-use std::ptr;
+use std::ffi::{c_char, c_int, c_void};
 
-/// The C functions. Their pointers are never NULL, and their lengths below 2^63, as those of slices are. An `IoSlice` is a
-/// `struct iovec`.
-pub mod ffi {
-    use std::ffi::c_void;
-    use std::io::{IoSlice, IoSliceMut};
-
-    #[repr(C)]
-    pub struct Perdoaze {
-        pub(crate) full: bool,
-        pub(crate) at: *mut c_void,
-    }
-
-    #[repr(C)]
-    #[derive(Clone)]
-    pub struct Info {
-        pub name: [u8; 128],
-        pub driver: [u8; 128],
-        pub priority: u32,
-        pub kind: u32,
-        pub block_size: u32,
-        pub iv_size: u32,
-        pub max_tag_size: u32,
-        pub min_key_size: u32,
-        pub max_key_size: u32,
-    }
-
-    /// One of several encryptions. Its buffer stands beside it.
-    #[repr(C)]
-    pub struct Encryption {
-        pub iv: *const u8,
-        pub iv_len: usize,
-        pub aad: *const u8,
-        pub aad_len: usize,
-        pub len: usize,
-        pub written: usize,
-        pub status: i32,
-    }
-
-    unsafe extern "C" {
-        pub fn perdoaze_raw_init(tfm: *mut Perdoaze, name: *const u8, name_len: usize) -> i32;
-        pub fn perdoaze_raw_setkey(tfm: *mut Perdoaze, key: *const u8, key_len: usize) -> i32;
-        pub fn perdoaze_raw_setauthsize(tfm: *mut Perdoaze, authsize: u32) -> i32;
-        pub fn perdoaze_raw_encrypt(
-            tfm: *mut Perdoaze,
-            iv: *const u8,
-            iv_len: usize,
-            aad: *const u8,
-            aad_len: usize,
-            text: *const u8,
-            text_len: usize,
-            out: *mut u8,
-            out_len: usize,
-            written: *mut usize,
-        ) -> i32;
-        pub fn perdoaze_raw_decrypt(
-            tfm: *mut Perdoaze,
-            iv: *const u8,
-            iv_len: usize,
-            aad: *const u8,
-            aad_len: usize,
-            text: *const u8,
-            text_len: usize,
-            out: *mut u8,
-            out_len: usize,
-            written: *mut usize,
-        ) -> i32;
-        pub fn perdoaze_raw_encrypt_in_place(
-            tfm: *mut Perdoaze,
-            iv: *const u8,
-            iv_len: usize,
-            aad: *const u8,
-            aad_len: usize,
-            buffer: *mut u8,
-            buffer_len: usize,
-            n: usize,
-            written: *mut usize,
-        ) -> i32;
-        pub fn perdoaze_raw_decrypt_in_place(
-            tfm: *mut Perdoaze,
-            iv: *const u8,
-            iv_len: usize,
-            aad: *const u8,
-            aad_len: usize,
-            buffer: *mut u8,
-            buffer_len: usize,
-            n: usize,
-            written: *mut usize,
-        ) -> i32;
-        pub fn perdoaze_raw_digest(
-            tfm: *mut Perdoaze,
-            text: *const u8,
-            text_len: usize,
-            out: *mut u8,
-            out_len: usize,
-            written: *mut usize,
-        ) -> i32;
-        pub fn perdoaze_raw_encryptv(
-            tfm: *mut Perdoaze,
-            iv: *const u8,
-            iv_len: usize,
-            aad: *const u8,
-            aad_len: usize,
-            text: *const IoSlice<'_>,
-            pieces: usize,
-            out: *mut u8,
-            out_len: usize,
-            written: *mut usize,
-        ) -> i32;
-        pub fn perdoaze_raw_decryptv(
-            tfm: *mut Perdoaze,
-            iv: *const u8,
-            iv_len: usize,
-            aad: *const u8,
-            aad_len: usize,
-            text: *const IoSlice<'_>,
-            pieces: usize,
-            out: *mut u8,
-            out_len: usize,
-            written: *mut usize,
-        ) -> i32;
-        pub fn perdoaze_raw_encryptv_in_place(
-            tfm: *mut Perdoaze,
-            iv: *const u8,
-            iv_len: usize,
-            aad: *const u8,
-            aad_len: usize,
-            text: *mut IoSliceMut<'_>,
-            pieces: usize,
-            n: usize,
-            written: *mut usize,
-        ) -> i32;
-        pub fn perdoaze_raw_decryptv_in_place(
-            tfm: *mut Perdoaze,
-            iv: *const u8,
-            iv_len: usize,
-            aad: *const u8,
-            aad_len: usize,
-            text: *mut IoSliceMut<'_>,
-            pieces: usize,
-            n: usize,
-            written: *mut usize,
-        ) -> i32;
-        pub fn perdoaze_raw_encrypt_many(
-            tfm: *mut Perdoaze,
-            asked: *mut Encryption,
-            count: usize,
-            buffers: *mut IoSliceMut<'_>,
-            pieces: usize,
-        );
-        pub fn perdoaze_raw_digestv(
-            tfm: *mut Perdoaze,
-            text: *const IoSlice<'_>,
-            pieces: usize,
-            out: *mut u8,
-            out_len: usize,
-            written: *mut usize,
-        ) -> i32;
-        pub fn perdoaze_raw_dup(from: *mut Perdoaze, into: *mut Perdoaze) -> i32;
-        pub fn perdoaze_raw_info(tfm: *mut Perdoaze, info: *mut Info) -> i32;
-        pub fn perdoaze_raw_list(index: usize, info: *mut Info) -> i32;
-        pub fn perdoaze_raw_free(tfm: *mut Perdoaze);
-        pub fn perdoaze_wipe_stack();
-    }
+/// A place for a transform: `PERDOAZE_NONE` has none.
+#[repr(C)]
+pub struct Perdoaze {
+    full: bool,
+    at: *mut c_void,
 }
 
-/// One of Linux's error numbers.
-#[derive(Clone, Copy, Debug, PartialEq, Eq)]
-pub struct Errno(pub i32);
+/// A place that has none.
+pub const PERDOAZE_NONE: Perdoaze = Perdoaze { full: false, at: std::ptr::null_mut() };
 
-impl Errno {
-    /// No driver has the name.
-    pub const ENOENT: Errno = Errno(2);
-    /// Memory is wanting.
-    pub const ENOMEM: Errno = Errno(12);
-    /// A name, a key, a size or a length isn't taken.
-    pub const EINVAL: Errno = Errno(22);
-    /// The tag is wrong.
-    pub const EBADMSG: Errno = Errno(74);
-    /// The answer has no room.
-    pub const EOVERFLOW: Errno = Errno(75);
-    /// No key was set.
-    pub const ENOKEY: Errno = Errno(126);
-}
-
-impl fmt::Display for Errno {
-    fn fmt(&self, f: &mut fmt::Formatter<'_>) -> fmt::Result {
-        f.write_str(match *self {
-            Errno::ENOENT => "no driver has the name",
-            Errno::ENOMEM => "out of memory",
-            Errno::EINVAL => "not taken",
-            Errno::EBADMSG => "the tag is wrong",
-            Errno::EOVERFLOW => "no room for the answer",
-            Errno::ENOKEY => "no key was set",
-            Errno(number) => return write!(f, "error {number}"),
-        })
-    }
-}
-
-impl std::error::Error for Errno {}
-
-fn done(result: i32) -> Result<(), Errno> {
-    if result == 0 { Ok(()) } else { Err(Errno(-result)) }
-}
-
-fn text_of(name: &[u8; 128]) -> &str {
-    let end = name.iter().position(|byte| *byte == 0).unwrap_or(128);
-    std::str::from_utf8(&name[..end]).unwrap_or("")
-}
-
-/// What is told of a transform, as /proc/crypto does.
+/// What is told of a transform. `size` is that of this struct.
+#[repr(C)]
 #[derive(Clone)]
-pub struct Info(ffi::Info);
-
-impl Info {
-    pub fn name(&self) -> &str {
-        text_of(&self.0.name)
-    }
-
-    pub fn driver(&self) -> &str {
-        text_of(&self.0.driver)
-    }
-
-    /// The numbers.
-    pub fn numbers(&self) -> &ffi::Info {
-        &self.0
-    }
+pub struct Info {
+    pub size: usize,
+    pub name: [c_char; 128],
+    pub driver: [c_char; 128],
+    pub priority: u32,
+    pub kind: u32,
+    pub block_size: u32,
+    pub iv_size: u32,
+    pub max_tag_size: u32,
+    pub min_key_size: u32,
+    pub max_key_size: u32,
+    pub tag_size: u32,
 }
 
-const EMPTY: ffi::Info = ffi::Info {
+/// What an `Info` begins with.
+pub const PERDOAZE_INFO: Info = Info {
+    size: size_of::<Info>(),
     name: [0; 128],
     driver: [0; 128],
     priority: 0,
@@ -257,409 +42,156 @@ const EMPTY: ffi::Info = ffi::Info {
     max_tag_size: 0,
     min_key_size: 0,
     max_key_size: 0,
+    tag_size: 0,
 };
 
-/// What is told of every driver.
-pub fn list() -> impl Iterator<Item = Info> {
-    (0..).map_while(|index| {
-        let mut info = EMPTY;
-        done(unsafe { ffi::perdoaze_raw_list(index, &mut info) }).ok()?;
-        Some(Info(info))
-    })
-}
-
-/// What [`Transform::encrypt_in_place`] takes.
-pub struct Request<'a> {
-    pub iv: &'a [u8],
-    pub aad: &'a [u8],
-    pub buffer: &'a mut [u8],
+/// A request of `perdoaze_encrypt_many`. `size` is that of this struct.
+#[repr(C)]
+pub struct Request {
+    pub size: usize,
+    pub iv: *const c_void,
+    pub iv_len: usize,
+    pub aad: *const c_void,
+    pub aad_len: usize,
+    pub buffer: *mut c_void,
+    pub buffer_len: usize,
     pub n: usize,
+    pub written: usize,
+    pub status: c_int,
 }
 
-/// An algorithm, maybe with a key. Its calls take `&mut self`, since two on one transform may not run at a time; a thread takes a
-/// second one by [`Transform::duplicate`], which shares the key.
-pub struct Transform(ffi::Perdoaze);
+/// POSIX's `struct iovec`.
+#[repr(C)]
+pub struct Iovec {
+    pub base: *mut c_void,
+    pub len: usize,
+}
 
-// What it holds is `Send`: `perdoaze_calls::laws` has the proof.
-unsafe impl Send for Transform {}
+pub const PERDOAZE_ENCRYPT: u32 = 1;
+pub const PERDOAZE_DECRYPT: u32 = 2;
+pub const PERDOAZE_DIGEST: u32 = 3;
 
-const NONE: ffi::Perdoaze = ffi::Perdoaze {
-    full: false,
-    at: ptr::null_mut(),
-};
-
-impl Transform {
-    /// The transform of the name of an algorithm or of a driver.
-    pub fn new(name: &str) -> Result<Transform, Errno> {
-        let mut made = Transform(NONE);
-        done(unsafe { ffi::perdoaze_raw_init(&mut made.0, name.as_ptr(), name.len()) })?;
-        Ok(made)
-    }
-
-    /// A second transform, which shares the key.
-    pub fn duplicate(&mut self) -> Result<Transform, Errno> {
-        let mut made = Transform(NONE);
-        done(unsafe { ffi::perdoaze_raw_dup(&mut self.0, &mut made.0) })?;
-        Ok(made)
-    }
-
-    pub fn info(&mut self) -> Result<Info, Errno> {
-        let mut info = EMPTY;
-        done(unsafe { ffi::perdoaze_raw_info(&mut self.0, &mut info) })?;
-        Ok(Info(info))
-    }
-
-    pub fn set_key(&mut self, key: &[u8]) -> Result<(), Errno> {
-        done(unsafe { ffi::perdoaze_raw_setkey(&mut self.0, key.as_ptr(), key.len()) })
-    }
-
-    /// Sets the tag size in bytes.
-    pub fn set_tag_size(&mut self, size: u32) -> Result<(), Errno> {
-        done(unsafe { ffi::perdoaze_raw_setauthsize(&mut self.0, size) })
-    }
-
-    /// Encrypts into the front of `out`, and gives how many bytes. With a tag, it stands behind the ciphertext.
-    pub fn encrypt(&mut self, iv: &[u8], aad: &[u8], text: &[u8], out: &mut [u8]) -> Result<usize, Errno> {
-        let mut n = 0;
-        done(unsafe {
-            ffi::perdoaze_raw_encrypt(
-                &mut self.0,
-                iv.as_ptr(),
-                iv.len(),
-                aad.as_ptr(),
-                aad.len(),
-                text.as_ptr(),
-                text.len(),
-                out.as_mut_ptr(),
-                out.len(),
-                &mut n,
-            )
-        })?;
-        Ok(n)
-    }
-
-    /// Decrypts into the front of `out`, and gives how many bytes. `EBADMSG` where the tag is wrong: `out` has no plaintext then.
-    pub fn decrypt(&mut self, iv: &[u8], aad: &[u8], text: &[u8], out: &mut [u8]) -> Result<usize, Errno> {
-        let mut n = 0;
-        done(unsafe {
-            ffi::perdoaze_raw_decrypt(
-                &mut self.0,
-                iv.as_ptr(),
-                iv.len(),
-                aad.as_ptr(),
-                aad.len(),
-                text.as_ptr(),
-                text.len(),
-                out.as_mut_ptr(),
-                out.len(),
-                &mut n,
-            )
-        })?;
-        Ok(n)
-    }
-
-    /// Encrypts the first `n` bytes of `buffer` in their place, and gives how many bytes the answer has.
-    pub fn encrypt_in_place(&mut self, iv: &[u8], aad: &[u8], buffer: &mut [u8], n: usize) -> Result<usize, Errno> {
-        let mut written = 0;
-        done(unsafe {
-            ffi::perdoaze_raw_encrypt_in_place(
-                &mut self.0,
-                iv.as_ptr(),
-                iv.len(),
-                aad.as_ptr(),
-                aad.len(),
-                buffer.as_mut_ptr(),
-                buffer.len(),
-                n,
-                &mut written,
-            )
-        })?;
-        Ok(written)
-    }
-
-    /// Decrypts the first `n` bytes of `buffer` in their place, and gives how many bytes the plaintext has.
-    pub fn decrypt_in_place(&mut self, iv: &[u8], aad: &[u8], buffer: &mut [u8], n: usize) -> Result<usize, Errno> {
-        let mut written = 0;
-        done(unsafe {
-            ffi::perdoaze_raw_decrypt_in_place(
-                &mut self.0,
-                iv.as_ptr(),
-                iv.len(),
-                aad.as_ptr(),
-                aad.len(),
-                buffer.as_mut_ptr(),
-                buffer.len(),
-                n,
-                &mut written,
-            )
-        })?;
-        Ok(written)
-    }
-
-    /// As [`Transform::encrypt`], of a text in pieces.
-    pub fn encrypt_vectored(
-        &mut self,
-        iv: &[u8],
-        aad: &[u8],
-        text: &[IoSlice<'_>],
-        out: &mut [u8],
-    ) -> Result<usize, Errno> {
-        let mut n = 0;
-        done(unsafe {
-            ffi::perdoaze_raw_encryptv(
-                &mut self.0,
-                iv.as_ptr(),
-                iv.len(),
-                aad.as_ptr(),
-                aad.len(),
-                text.as_ptr(),
-                text.len(),
-                out.as_mut_ptr(),
-                out.len(),
-                &mut n,
-            )
-        })?;
-        Ok(n)
-    }
-
-    /// As [`Transform::decrypt`], of a text in pieces.
-    pub fn decrypt_vectored(
-        &mut self,
-        iv: &[u8],
-        aad: &[u8],
-        text: &[IoSlice<'_>],
-        out: &mut [u8],
-    ) -> Result<usize, Errno> {
-        let mut n = 0;
-        done(unsafe {
-            ffi::perdoaze_raw_decryptv(
-                &mut self.0,
-                iv.as_ptr(),
-                iv.len(),
-                aad.as_ptr(),
-                aad.len(),
-                text.as_ptr(),
-                text.len(),
-                out.as_mut_ptr(),
-                out.len(),
-                &mut n,
-            )
-        })?;
-        Ok(n)
-    }
-
-    /// As [`Transform::encrypt_in_place`], where the buffer lies in pieces. Several of more than 4,160 bytes together are copied to
-    /// memory of the heap under XTS and CCM, and where the request isn't taken (`ENOMEM`).
-    pub fn encrypt_vectored_in_place(
-        &mut self,
-        iv: &[u8],
-        aad: &[u8],
-        buffer: &mut [IoSliceMut<'_>],
+unsafe extern "C" {
+    pub fn perdoaze_version() -> u32;
+    pub fn perdoaze_strerror(result: c_int) -> *const c_char;
+    pub fn perdoaze_init(tfm: *mut Perdoaze, name: *const c_char) -> c_int;
+    pub fn perdoaze_setkey(tfm: *mut Perdoaze, key: *const c_void, key_len: usize) -> c_int;
+    pub fn perdoaze_setauthsize(tfm: *mut Perdoaze, authsize: u32) -> c_int;
+    pub fn perdoaze_encrypt(
+        tfm: *mut Perdoaze,
+        iv: *const c_void,
+        iv_len: usize,
+        aad: *const c_void,
+        aad_len: usize,
+        text: *const c_void,
+        text_len: usize,
+        out: *mut c_void,
+        out_len: usize,
+        written: *mut usize,
+    ) -> c_int;
+    pub fn perdoaze_decrypt(
+        tfm: *mut Perdoaze,
+        iv: *const c_void,
+        iv_len: usize,
+        aad: *const c_void,
+        aad_len: usize,
+        text: *const c_void,
+        text_len: usize,
+        out: *mut c_void,
+        out_len: usize,
+        written: *mut usize,
+    ) -> c_int;
+    pub fn perdoaze_encrypt_in_place(
+        tfm: *mut Perdoaze,
+        iv: *const c_void,
+        iv_len: usize,
+        aad: *const c_void,
+        aad_len: usize,
+        buffer: *mut c_void,
+        buffer_len: usize,
         n: usize,
-    ) -> Result<usize, Errno> {
-        let mut written = 0;
-        done(unsafe {
-            ffi::perdoaze_raw_encryptv_in_place(
-                &mut self.0,
-                iv.as_ptr(),
-                iv.len(),
-                aad.as_ptr(),
-                aad.len(),
-                buffer.as_mut_ptr(),
-                buffer.len(),
-                n,
-                &mut written,
-            )
-        })?;
-        Ok(written)
-    }
-
-    /// As [`Transform::decrypt_in_place`], where the buffer lies in pieces. `ENOMEM` as
-    /// [`Transform::encrypt_vectored_in_place`] has it.
-    pub fn decrypt_vectored_in_place(
-        &mut self,
-        iv: &[u8],
-        aad: &[u8],
-        buffer: &mut [IoSliceMut<'_>],
+        written: *mut usize,
+    ) -> c_int;
+    pub fn perdoaze_decrypt_in_place(
+        tfm: *mut Perdoaze,
+        iv: *const c_void,
+        iv_len: usize,
+        aad: *const c_void,
+        aad_len: usize,
+        buffer: *mut c_void,
+        buffer_len: usize,
         n: usize,
-    ) -> Result<usize, Errno> {
-        let mut written = 0;
-        done(unsafe {
-            ffi::perdoaze_raw_decryptv_in_place(
-                &mut self.0,
-                iv.as_ptr(),
-                iv.len(),
-                aad.as_ptr(),
-                aad.len(),
-                buffer.as_mut_ptr(),
-                buffer.len(),
-                n,
-                &mut written,
-            )
-        })?;
-        Ok(written)
-    }
-
-    /// As [`Transform::encrypt_in_place`] for each request in turn. Under CBC, and authenc over it, eight at a time are encrypted side by
-    /// side.
-    pub fn encrypt_many(&mut self, requests: &mut [Request<'_>]) -> Vec<Result<usize, Errno>> {
-        let mut results = Vec::with_capacity(requests.len());
-        for group in requests.chunks_mut(8) {
-            let mut asked: Vec<ffi::Encryption> = group
-                .iter()
-                .map(|request| ffi::Encryption {
-                    iv: request.iv.as_ptr(),
-                    iv_len: request.iv.len(),
-                    aad: request.aad.as_ptr(),
-                    aad_len: request.aad.len(),
-                    len: request.n,
-                    written: 0,
-                    status: 0,
-                })
-                .collect();
-            let mut buffers: Vec<IoSliceMut<'_>> =
-                group.iter_mut().map(|request| IoSliceMut::new(request.buffer)).collect();
-            unsafe {
-                ffi::perdoaze_raw_encrypt_many(
-                    &mut self.0,
-                    asked.as_mut_ptr(),
-                    asked.len(),
-                    buffers.as_mut_ptr(),
-                    buffers.len(),
-                )
-            };
-            results.extend(asked.iter().map(|one| done(one.status).map(|()| one.written)));
-        }
-        results
-    }
-
-    /// Writes the MAC of `text` to the front of `out`, and gives how many bytes it has.
-    pub fn digest(&mut self, text: &[u8], out: &mut [u8]) -> Result<usize, Errno> {
-        let mut n = 0;
-        done(unsafe {
-            ffi::perdoaze_raw_digest(&mut self.0, text.as_ptr(), text.len(), out.as_mut_ptr(), out.len(), &mut n)
-        })?;
-        Ok(n)
-    }
-
-    /// As [`Transform::digest`], of a text in pieces, which are read where they lie.
-    pub fn digest_vectored(&mut self, text: &[IoSlice<'_>], out: &mut [u8]) -> Result<usize, Errno> {
-        let mut n = 0;
-        done(unsafe {
-            ffi::perdoaze_raw_digestv(&mut self.0, text.as_ptr(), text.len(), out.as_mut_ptr(), out.len(), &mut n)
-        })?;
-        Ok(n)
-    }
-}
-
-/// Overwrites the stack below the caller's frame, where calls of the library have been.
-pub fn wipe_stack() {
-    unsafe { ffi::perdoaze_wipe_stack() }
-}
-
-impl Drop for Transform {
-    fn drop(&mut self) {
-        unsafe { ffi::perdoaze_raw_free(&mut self.0) }
-    }
-}
-
-#[cfg(test)]
-mod tests {
-    use super::*;
-
-    /// The GCM specification, test case 2, as one value.
-    const SEALED: [u8; 32] = *b"\x03\x88\xda\xce\x60\xb6\xa3\x92\xf3\x28\xc2\xb9\x71\xb2\xfe\x78\xab\x6e\x47\xd4\x2c\xec\x13\xbd\xf5\x3a\x67\xb2\x12\x57\xbd\xdf";
-
-    #[test]
-    fn gcm_seals_and_opens() {
-        let mut gcm = Transform::new("gcm(aes)").unwrap();
-        assert_eq!(gcm.encrypt(&[0; 12], &[], &[], &mut []), Err(Errno::ENOKEY));
-        gcm.set_key(&[0; 16]).unwrap();
-        let mut out = [0; 32];
-        assert_eq!(gcm.encrypt(&[0; 12], &[], &[0; 16], &mut out), Ok(32));
-        assert_eq!(out, SEALED);
-        let mut opened = [9; 16];
-        assert_eq!(gcm.decrypt(&[0; 12], &[], &out, &mut opened), Ok(16));
-        assert_eq!(opened, [0; 16]);
-        out[31] ^= 1;
-        assert_eq!(gcm.decrypt_in_place(&[0; 12], &[], &mut out, 32), Err(Errno::EBADMSG));
-    }
-
-    #[test]
-    fn texts_lie_in_pieces() {
-        let mut gcm = Transform::new("gcm(aes)").unwrap();
-        gcm.set_key(&[0; 16]).unwrap();
-        let pieces = [IoSlice::new(&[0; 5]), IoSlice::new(&[]), IoSlice::new(&[0; 11])];
-        let mut out = [0; 32];
-        assert_eq!(gcm.encrypt_vectored(&[0; 12], &[], &pieces, &mut out), Ok(32));
-        assert_eq!(out, SEALED);
-        let (front, back) = SEALED.split_at(20);
-        let mut opened = [9; 16];
-        let sealed = [IoSlice::new(front), IoSlice::new(back)];
-        assert_eq!(gcm.decrypt_vectored(&[0; 12], &[], &sealed, &mut opened), Ok(16));
-        assert_eq!(opened, [0; 16]);
-        let (mut first, mut second) = ([0; 7], [0; 25]);
-        let mut buffer = [IoSliceMut::new(&mut first), IoSliceMut::new(&mut second)];
-        assert_eq!(gcm.encrypt_vectored_in_place(&[0; 12], &[], &mut buffer, 16), Ok(32));
-        assert_eq!([&buffer[0][..], &buffer[1][..]].concat(), SEALED);
-        assert_eq!(gcm.decrypt_vectored_in_place(&[0; 12], &[], &mut buffer, 32), Ok(16));
-        assert_eq!([&first[..], &second[..9]].concat(), [0; 16]);
-        wipe_stack();
-    }
-
-    #[test]
-    fn many_are_as_each() {
-        let mut cbc = Transform::new("cbc(aes)").unwrap();
-        cbc.set_key(&[7; 16]).unwrap();
-        let mut buffers = [[5; 48]; 11];
-        let mut one = [5; 48];
-        assert_eq!(cbc.encrypt_in_place(&[1; 16], &[], &mut one, 48), Ok(48));
-        let mut requests: Vec<Request<'_>> =
-            buffers.iter_mut().map(|buffer| Request { iv: &[1; 16], aad: &[], buffer, n: 48 }).collect();
-        requests[9].iv = &[1; 15];
-        let results = cbc.encrypt_many(&mut requests);
-        for (at, result) in results.iter().enumerate() {
-            assert_eq!(*result, if at == 9 { Err(Errno::EINVAL) } else { Ok(48) });
-        }
-        for (at, buffer) in buffers.iter().enumerate() {
-            assert_eq!(*buffer, if at == 9 { [5; 48] } else { one });
-        }
-    }
-
-    #[test]
-    fn threads_share_a_key() {
-        let mut gcm = Transform::new("gcm_base(ctr(aes-lanes),ghash-table)").unwrap();
-        gcm.set_key(&[0; 16]).unwrap();
-        let mut second = gcm.duplicate().unwrap();
-        let other = std::thread::spawn(move || {
-            let mut buffer = [0; 32];
-            second.encrypt_in_place(&[0; 12], &[], &mut buffer, 16).map(|_| buffer)
-        });
-        let mut out = [0; 32];
-        assert_eq!(gcm.encrypt(&[0; 12], &[], &[0; 16], &mut out), Ok(32));
-        assert_eq!(other.join().unwrap(), Ok(out));
-    }
-
-    /// RFC 4231, test case 1.
-    #[test]
-    fn hmac_makes_a_mac() {
-        let mut hmac = Transform::new("hmac(sha256)").unwrap();
-        hmac.set_key(&[0x0b; 20]).unwrap();
-        let mut out = [0; 32];
-        assert_eq!(hmac.digest(b"Hi There", &mut out), Ok(32));
-        assert_eq!(out[..4], [0xb0, 0x34, 0x4c, 0x61]);
-        let mut again = [0; 32];
-        assert_eq!(hmac.digest_vectored(&[IoSlice::new(b"Hi "), IoSlice::new(b"There")], &mut again), Ok(32));
-        assert_eq!(again, out);
-        assert_eq!(hmac.encrypt(&[], &[], b"Hi There", &mut out), Err(Errno::EINVAL));
-    }
-
-    #[test]
-    fn drivers_are_listed() {
-        let names: Vec<String> = list().map(|info| info.driver().to_string()).collect();
-        assert_eq!(names.len(), 43);
-        for name in names {
-            assert_eq!(Transform::new(&name).unwrap().info().unwrap().driver(), name);
-        }
-    }
+        written: *mut usize,
+    ) -> c_int;
+    pub fn perdoaze_digest(
+        tfm: *mut Perdoaze,
+        text: *const c_void,
+        text_len: usize,
+        out: *mut c_void,
+        out_len: usize,
+        written: *mut usize,
+    ) -> c_int;
+    pub fn perdoaze_encryptv(
+        tfm: *mut Perdoaze,
+        iv: *const c_void,
+        iv_len: usize,
+        aad: *const c_void,
+        aad_len: usize,
+        text: *const Iovec,
+        pieces: usize,
+        out: *mut c_void,
+        out_len: usize,
+        written: *mut usize,
+    ) -> c_int;
+    pub fn perdoaze_decryptv(
+        tfm: *mut Perdoaze,
+        iv: *const c_void,
+        iv_len: usize,
+        aad: *const c_void,
+        aad_len: usize,
+        text: *const Iovec,
+        pieces: usize,
+        out: *mut c_void,
+        out_len: usize,
+        written: *mut usize,
+    ) -> c_int;
+    pub fn perdoaze_encryptv_in_place(
+        tfm: *mut Perdoaze,
+        iv: *const c_void,
+        iv_len: usize,
+        aad: *const c_void,
+        aad_len: usize,
+        buffer: *const Iovec,
+        pieces: usize,
+        n: usize,
+        written: *mut usize,
+    ) -> c_int;
+    pub fn perdoaze_decryptv_in_place(
+        tfm: *mut Perdoaze,
+        iv: *const c_void,
+        iv_len: usize,
+        aad: *const c_void,
+        aad_len: usize,
+        buffer: *const Iovec,
+        pieces: usize,
+        n: usize,
+        written: *mut usize,
+    ) -> c_int;
+    pub fn perdoaze_encrypt_many(tfm: *mut Perdoaze, requests: *mut Request, count: usize) -> c_int;
+    pub fn perdoaze_digestv(
+        tfm: *mut Perdoaze,
+        text: *const Iovec,
+        pieces: usize,
+        out: *mut c_void,
+        out_len: usize,
+        written: *mut usize,
+    ) -> c_int;
+    pub fn perdoaze_dup(from: *mut Perdoaze, into: *mut Perdoaze) -> c_int;
+    pub fn perdoaze_get_info(tfm: *mut Perdoaze, info: *mut Info) -> c_int;
+    pub fn perdoaze_list(index: usize, info: *mut Info) -> c_int;
+    pub fn perdoaze_outlen(tfm: *mut Perdoaze, what: u32, n: usize, len: *mut usize) -> c_int;
+    pub fn perdoaze_free(tfm: *mut Perdoaze);
+    pub fn perdoaze_compare(a: *const c_void, b: *const c_void, n: usize) -> c_int;
+    pub fn perdoaze_wipe(bytes: *mut c_void, n: usize);
+    pub fn perdoaze_wipe_stack();
 }
