@@ -38,7 +38,7 @@ abbrev pub within : List ℕ → List ℕ → List ℕ
 within word name =
     if nat_lt (length name) 8 then name else
     (if bytes_eq (take 7 name) word then
-        (if bytes_eq (drop (length name - 8) (drop 7 name)) (codes ")") then take (length name - 8) (drop 7 name) else name)
+    (if bytes_eq (drop (length name - 8) (drop 7 name)) (codes ")") then take (length name - 8) (drop 7 name) else name)
     else name)
 
 -- `pcrypt(A)`, `cryptd(A)` and `cryptd(pcrypt(A))`, of an algorithm A, stand for A
