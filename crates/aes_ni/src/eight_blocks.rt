@@ -23,7 +23,8 @@ impl KeySchedule {
     #[inline(always)]
     fn seal_round_of_all(&self, states: &mut [[u8; 16]; 8], round: usize)
         requires { round < 15 }
-        ensures { states.new ≡ map (λ s. add_round_key (schedule_of self.now.keys) round (mix_columns (shift_rows (sub_bytes s)))) states.old }
+        ensures { states.new
+            ≡ map (λ s. add_round_key (schedule_of self.now.keys) round (mix_columns (shift_rows (sub_bytes s)))) states.old }
     {
         for state in states.iter_mut() {
             self.seal_round(state, round);
@@ -44,7 +45,8 @@ impl KeySchedule {
     fn unseal_round_of_all(&self, states: &mut [[u8; 16]; 8], round: usize)
         requires { round < 15 }
         ensures { states.new
-            ≡ map (λ s. inverse_mix_columns (add_round_key (schedule_of self.now.keys) round (inverse_sub_bytes (inverse_shift_rows s)))) states.old }
+            ≡ map (λ s. inverse_mix_columns
+            (add_round_key (schedule_of self.now.keys) round (inverse_sub_bytes (inverse_shift_rows s)))) states.old }
     {
         for state in states.iter_mut() {
             self.unseal_round(state, round);
@@ -53,7 +55,8 @@ impl KeySchedule {
 
     #[inline(always)]
     fn unseal_last_of_all(&self, states: &mut [[u8; 16]; 8])
-        ensures { states.new ≡ map (λ s. add_round_key (schedule_of self.now.keys) 0 (inverse_sub_bytes (inverse_shift_rows s))) states.old }
+        ensures { states.new
+            ≡ map (λ s. add_round_key (schedule_of self.now.keys) 0 (inverse_sub_bytes (inverse_shift_rows s))) states.old }
     {
         for state in states.iter_mut() {
             self.unseal_last(state);

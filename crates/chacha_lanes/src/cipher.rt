@@ -49,7 +49,8 @@ fn xor_eight_at(text: &mut [u8], at: usize, key: &[u32; 8], counter: u32, nonce:
     requires { at + 512 ≤ length text.old }
     ensures long { length text.new ≡ length text.old }
     ensures before { (i : ℕ) → i < at → slice_index text.new i ≡ slice_index text.old i }
-    ensures there { (k : ℕ) → k < 512 → slice_index text.new (at + k) ≡ bit_xor (slice_index text.old (at + k)) (stream_byte key.now nonce.now counter k) }
+    ensures there { (k : ℕ) → k < 512
+        → slice_index text.new (at + k) ≡ bit_xor (slice_index text.old (at + k)) (stream_byte key.now nonce.now counter k) }
     ensures behind { (i : ℕ) → at + 512 ≤ i → slice_index text.new i ≡ slice_index text.old i }
 {
     xor_eight(&mut text[at..at + 512], key, counter, nonce);

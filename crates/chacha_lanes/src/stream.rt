@@ -13,7 +13,8 @@ fn add_words(text: &mut [u8], at: usize, words: u32x8)
     requires { at + 32 ≤ length text.old }
     ensures long { length text.new ≡ length text.old }
     ensures before { (i : ℕ) → i < at → slice_index text.new i ≡ slice_index text.old i }
-    ensures there { (k : ℕ) → k < 32 → slice_index text.new (at + k) ≡ bit_xor (slice_index text.old (at + k)) (slice_index words (k / 4) / 256 ^ (k % 4) % 256) }
+    ensures there { (k : ℕ) → k < 32
+        → slice_index text.new (at + k) ≡ bit_xor (slice_index text.old (at + k)) (slice_index words (k / 4) / 256 ^ (k % 4) % 256) }
     ensures behind { (i : ℕ) → at + 32 ≤ i → slice_index text.new i ≡ slice_index text.old i }
 {
     let sum = u8x32::from_slice(&text[at..at + 32]) ^ words.to_le_bytes();

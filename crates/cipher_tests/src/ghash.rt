@@ -1,5 +1,5 @@
-//! GHASH by each form of a key: the GCM specification's test cases 2 and 4, another library's hash of a longer text, and
-//! one form beside another.
+//! GHASH by each form of a key: the GCM specification's test cases 2 and 4, another library's hash of a longer text,
+//! and one form beside another.
 
 use ghash_clmul::ClmulGhash;
 use ghash_field::{BitGhash, GhashKey, LaneGhash, absorb, ghash_of, multiply};

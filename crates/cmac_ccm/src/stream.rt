@@ -7,8 +7,8 @@ use crate::chain::{chain_block, chain_blocks};
 use crate::cmac::Cmac;
 use aes_block::BlockCipher;
 
-/// A message on its way to its MAC: the chain over the blocks before the last, the bytes of the last, and how many these
-/// are. Each call is to be under the same key.
+/// A message on its way to its MAC: the chain over the blocks before the last, the bytes of the last, and how many
+/// these are. Each call is to be under the same key.
 #[derive(Drop)]
 pub struct Message {
     chain: [u8; 16],

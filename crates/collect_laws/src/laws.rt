@@ -4,8 +4,8 @@ ghost use Rattle.std.specs.Prelude.{ℕ, List};
 ghost use Rattle.board.specs.declared.entry.BoardEntry.{BoardEntry};
 ghost use Rattle.collect_laws.specs.Delivered.{DeliversTold, DeliversTheFirst, DeliversAllFinished, DeliversAll};
 
-/// In every legal history, what the collects of a pipeline deliver, one after another, is what it told up to the last of
-/// them. The completions among it are those of its first requests, in the order of their submission, each once, with
+/// In every legal history, what the collects of a pipeline deliver, one after another, is what it told up to the last
+/// of them. The completions among it are those of its first requests, in the order of their submission, each once, with
 /// what its own ask means: after a collect those of all up to the first that is not finished.
 pub fn collects_deliver<A, O>()
     ensures told { (meaning : A → O) (h : List (BoardEntry A)) (p : ℕ) → DeliversTold meaning h p }

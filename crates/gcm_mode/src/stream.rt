@@ -41,7 +41,8 @@ impl GcmBegun {
     /// Takes more associated bytes, fewer than 2^61 in all (5.2.1.1).
     pub fn add<C: BlockCipher + Drop, H: GhashKey + Drop>(&mut self, gcm: &Gcm<C, H>, bytes: &[u8])
         requires short { self.old.associated.len + length bytes.now < 2 ^ 61 }
-        ensures more { let h = hash_subkey (C.sealed gcm.now) in (iv a : List ℕ) → Begun h iv a self.old → Begun h iv (a ++ bytes.now) self.new }
+        ensures more { let h = hash_subkey (C.sealed gcm.now) in (iv a : List ℕ)
+            → Begun h iv a self.old → Begun h iv (a ++ bytes.now) self.new }
         ensures len { self.new.associated.len ≡ self.old.associated.len + length bytes.now }
     {
         self.associated.add(gcm.key(), bytes);

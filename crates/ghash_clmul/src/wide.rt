@@ -9,8 +9,8 @@ use instructions::{clmul_high_high, clmul_high_low, clmul_low_high, clmul_low_lo
 use std::marker::Model;
 use std::simd::prelude::*;
 
-/// A product before reduction, in three parts of 128 bits that overlap: the middle one stands 64 places up, the high one
-/// 128. Contracts see its number, which is below 2^256.
+/// A product before reduction, in three parts of 128 bits that overlap: the middle one stands 64 places up, the high
+/// one 128. Contracts see its number, which is below 2^256.
 #[derive(Drop)]
 pub(crate) struct Wide {
     low: u64x2,

@@ -24,7 +24,8 @@ pub(crate) fn plus(a: u64x4, b: u64x4) -> u64x4
 /// The product of each lane, of two numbers of 32 bits.
 #[inline(always)]
 pub(crate) fn times(a: u64x4, b: u64x4) -> u64x4
-    ensures { (j : ℕ) → j < 4 → slice_index a j < 2 ^ 32 → slice_index b j < 2 ^ 32 → slice_index result j ≡ slice_index a j * slice_index b j }
+    ensures { (j : ℕ) → j < 4 → slice_index a j < 2 ^ 32 → slice_index b j < 2 ^ 32
+        → slice_index result j ≡ slice_index a j * slice_index b j }
 {
     (a & u64x4::splat(LOW_WORD)) * (b & u64x4::splat(LOW_WORD))
 }

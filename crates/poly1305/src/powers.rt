@@ -47,7 +47,8 @@ pub(crate) struct Powers {
     each: Limbs,
     last: Limbs,
     pub(crate) r: u128,
-    ghost powers: { HasPowers r (each.l0 ∷ each.l1 ∷ each.l2 ∷ each.l3 ∷ each.l4 ∷ []) (last.l0 ∷ last.l1 ∷ last.l2 ∷ last.l3 ∷ last.l4 ∷ []) },
+    ghost powers: { HasPowers r (each.l0 ∷ each.l1 ∷ each.l2 ∷ each.l3 ∷ each.l4 ∷ [])
+        (last.l0 ∷ last.l1 ∷ last.l2 ∷ last.l3 ∷ last.l4 ∷ []) },
 }
 
 /// The first lanes of four vectors.
@@ -121,8 +122,8 @@ fn last_lanes(x: u64x4, n: usize) -> u64x4
 }
 
 /// A group of four blocks more, in lanes whose carries have not been taken on. The sums are carried at the start of the
-/// next step and not at the end of this one: so the compiler sees that both factors of a product have 32 bits, and takes
-/// one instruction for it.
+/// next step and not at the end of this one: so the compiler sees that both factors of a product have 32 bits, and
+/// takes one instruction for it.
 #[inline(always)]
 fn next_group(h: [u64x4; 5], power: [u64x4; 5], bytes: &[u8], at: usize, front: u64) -> [u64x4; 5]
     requires within { at + 64 ≤ length bytes.now }

@@ -58,7 +58,8 @@ impl Poly1305 {
 
     /// Takes bytes more, and zeros behind them to whole blocks of sixteen bytes: none where the bytes are whole blocks.
     pub fn add_padded(&mut self, bytes: &[u8])
-        ensures { self.new ≡ (self.old.0, accumulated (key_r self.old.0) (message_block (padded bytes.now)) self.old.1 (length (padded bytes.now) / 16)) }
+        ensures { self.new
+            ≡ (self.old.0, accumulated (key_r self.old.0) (message_block (padded bytes.now)) self.old.1 (length (padded bytes.now) / 16)) }
     {
         self.limbs = self.powers.after_padded(self.limbs, bytes);
     }

@@ -19,8 +19,8 @@ pub fn work_goes_on<A>()
     ensures wanted { (h : List (BoardEntry A)) (e : BoardEntry A) (p : ℕ) → WorkIsWanted h e p }
 {}
 
-/// No legal history has more than three entries of work for each request that was accepted, and besides it has the calls
-/// that aren't work. So work alone, in whatever order it comes, ends.
+/// No legal history has more than three entries of work for each request that was accepted, and besides it has the
+/// calls that aren't work. So work alone, in whatever order it comes, ends.
 pub fn work_is_bounded<A>()
     ensures each { (h : List (BoardEntry A)) (p : ℕ) → WorksFew h p }
     ensures all { (h : List (BoardEntry A)) → BoardWorksFew h }
