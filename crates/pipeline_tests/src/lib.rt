@@ -1,4 +1,4 @@
-//! Tests of reorder lists, of queues and of the board, over what these make public.
+//! Tests of reorder lists, of reorder windows, of queues and of the board, over what these make public.
 //!
 //! They stand apart, since a crate that has tests is proved a second time for them.
 #![tactic(auto)]
@@ -13,5 +13,7 @@ mod pads;
 mod queues;
 #[cfg(test)]
 mod reorder_lists;
+#[cfg(test)]
+mod reorder_windows;
 #[cfg(test)]
 mod served_queue;

@@ -1,0 +1,4 @@
+pub mod Adding
+pub mod Batching
+pub mod InOrder
+pub mod Tests

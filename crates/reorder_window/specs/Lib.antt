@@ -1,0 +1,4 @@
+pub mod Batches
+pub mod Windows
+pub mod History
+pub mod Laws
