@@ -1,5 +1,1 @@
-pub mod Delivering
-pub mod EndedRuns
-pub mod Keeping
-pub mod Places
-pub mod ToldInOrder
+pub mod Each

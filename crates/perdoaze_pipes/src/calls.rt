@@ -1,215 +1,174 @@
-//! The calls of C, each on places for a pipe and for a job.
+//! The calls of C, each on a place for a pipe.
 
-ghost use Rattle.std.specs.Prelude.{◌≡◌, ⊤, None, MatchOption};
-ghost use Rattle.perdoaze_pipes.specs.Calls.{OnPipe, TakesInto, task_in, RunsIn, RunsEach, FinishesFrom, SubmitsBy, Drains};
-ghost use Rattle.perdoaze_pipes.specs.QueueControl.{Holds, Goes, Masks};
-ghost use Rattle.perdoaze_pipes.specs.Polls.{Polls};
-ghost use Rattle.perdoaze_pipes.specs.Submission.{Begins, direction as direction_by};
+ghost use Rattle.std.specs.Prelude.{◌≡◌, ⊤, true, false, None};
+ghost use Rattle.perdoaze_pipes.specs.Calls.{BeginsIn, OnPipe, Drains, Starts};
+ghost use Rattle.perdoaze_pipes.specs.Pipes.{Submits, TakesSome, Finishes, PollsSome, Holds, Masks};
 
-use crate::answer::Answer;
-use crate::event::Event;
 use crate::pipe::Pipe;
+use crate::pipe_error::PipeErr;
 use crate::pipe_place::PipePlace;
-use crate::task::Task;
-use crate::task_place::TaskPlace;
-use crate::together::run_each;
-use perdoaze_calls::Slot;
 use std::alloc::Global;
 
-/// Begins a pipe in the place, in place of the one that was there.
+/// Begins a pipe in the place, in place of the one that was there. No other call takes memory.
 pub fn init(
     place: &mut PipePlace,
     alloc: Global,
-    id: u64,
     kind: u32,
-    max: u32,
-    lists: u32,
-) -> Answer
-    ensures { Begins place.new.handle.value id kind max lists result }
+    room: usize,
+    max: usize,
+    workers: u32,
+) -> Result<(), PipeErr>
+    ensures { BeginsIn place.new.handle.value kind room max workers result }
 {
     drop(place.take(alloc));
-    match Pipe::new(alloc, id, kind, max, lists) {
-        Err(answer) => answer,
-        Ok(pipe) => match Box::new(alloc, pipe) {
-            Ok(made) => {
-                place.fill(made);
-                Answer::Done
-            }
-            Err(_) => Answer::NoMemory,
-        },
+    let pipe = Pipe::new(alloc, kind, room, max, workers)?;
+    match Box::new(alloc, pipe) {
+        Ok(made) => {
+            place.fill(made);
+            Ok(())
+        }
+        Err(_) => Err(PipeErr::NoMemory),
     }
 }
 
-/// Asks the transform in the slot.
+/// Takes requests in.
 pub fn submit(
     place: &mut PipePlace,
     alloc: Global,
-    slot: &mut Slot,
-    direction: u32,
+    addresses: &[u64],
     backlog: bool,
-    iv: &[u8],
-    aad: &[u8],
-    text: &[u8],
-    number: &mut u64,
-) -> Answer
-    ensures kept { slot.new.handle.value ≡ slot.old.handle.value }
-    ensures came { OnPipe place.old.handle.value place.new.handle.value result (number.new ≡ number.old)
-        (λ p q. SubmitsBy p q slot.old.handle.value (direction_by direction)
-        backlog iv.now aad.now text.now result number.old number.new) }
+    first: &mut u64,
+    started: &mut u64,
+) -> Result<usize, PipeErr>
+    ensures { OnPipe place.old.handle.value place.new.handle.value result ((first.new ≡ first.old) × (started.new ≡ started.old))
+        (λ p q. Submits p q addresses.now backlog first.new started.new) }
 {
     let Some(mut pipe) = place.take(alloc) else {
-        return Answer::Invalid;
+        return Err(PipeErr::Invalid);
     };
-    let Some(held) = slot.take(alloc) else {
-        place.fill(pipe);
-        return Answer::Invalid;
-    };
-    let answer = pipe.submit(&held, direction, backlog, iv, aad, text, number);
-    slot.fill(held);
+    let came = pipe.submit(addresses, backlog, first, started);
     place.fill(pipe);
-    answer
+    came
 }
 
-/// What is in the place, or a task that has no job.
-fn held_in(task: &mut TaskPlace, alloc: Global) -> Option<Box<Task>>
-    ensures left { task.new.handle.value ≡ None }
-    ensures held { MatchOption result (task.old.handle.value ≡ None) (λ held. held.value ≡ task_in task.old.handle.value) }
-{
-    match task.take(alloc) {
-        Some(held) => Some(held),
-        None => match Box::new(alloc, Task::Idle) {
-            Ok(made) => Some(made),
-            Err(_) => None,
-        },
-    }
-}
-
-/// Hands a job to a worker.
-pub fn take(place: &mut PipePlace, alloc: Global, worker: u32, task: &mut TaskPlace) -> Answer
-    ensures { OnPipe place.old.handle.value place.new.handle.value result (task.new.handle.value ≡ task.old.handle.value)
-        (λ p q. TakesInto p q worker result task.old.handle.value task.new.handle.value) }
+/// Hands requests to a worker.
+pub fn take(
+    place: &mut PipePlace,
+    alloc: Global,
+    worker: u32,
+    out: &mut [u64],
+    first: &mut u64,
+) -> Result<usize, PipeErr>
+    ensures { OnPipe place.old.handle.value place.new.handle.value result ((out.new ≡ out.old) × (first.new ≡ first.old))
+        (λ p q. TakesSome p q worker out.old out.new first.new) }
 {
     let Some(mut pipe) = place.take(alloc) else {
-        return Answer::Invalid;
+        return Err(PipeErr::Invalid);
     };
-    let Some(mut held) = held_in(task, alloc) else {
-        place.fill(pipe);
-        return Answer::NoMemory;
-    };
-    let answer = pipe.take(worker, &mut held);
-    task.fill(held);
+    let count = pipe.take(worker, out, first);
     place.fill(pipe);
-    answer
+    Ok(count)
 }
 
-/// Does the work of a job.
-pub fn run(task: &mut TaskPlace, alloc: Global) -> Answer
-    ensures { RunsIn task.old.handle.value task.new.handle.value result }
-{
-    let Some(mut held) = task.take(alloc) else {
-        return Answer::Invalid;
-    };
-    let answer = held.run();
-    task.fill(held);
-    answer
-}
-
-/// Does the work of the jobs in eight places: side by side where all seal under CBC, or authenc over it, under one key.
-pub fn run_eight(tasks: &mut [TaskPlace; 8], alloc: Global)
-    ensures { RunsEach tasks.old tasks.new }
-{
-    run_each(tasks, alloc);
-}
-
-/// Takes back a job that was run.
-pub fn finish(place: &mut PipePlace, alloc: Global, task: &mut TaskPlace) -> Answer
-    ensures { OnPipe place.old.handle.value place.new.handle.value result (task.new.handle.value ≡ task.old.handle.value)
-        (λ p q. FinishesFrom p q result task.old.handle.value task.new.handle.value) }
+/// Takes back requests that a worker is done with.
+pub fn finish(
+    place: &mut PipePlace,
+    alloc: Global,
+    worker: u32,
+    first: u64,
+    count: usize,
+) -> Result<usize, PipeErr>
+    ensures { OnPipe place.old.handle.value place.new.handle.value result ⊤ (λ p q. Finishes p q worker first count) }
 {
     let Some(mut pipe) = place.take(alloc) else {
-        return Answer::Invalid;
+        return Err(PipeErr::Invalid);
     };
-    let Some(mut held) = task.take(alloc) else {
-        place.fill(pipe);
-        return Answer::Invalid;
-    };
-    let answer = pipe.finish(&mut held);
-    task.fill(held);
+    let came = pipe.finish(worker, first, count);
     place.fill(pipe);
-    answer
+    came
 }
 
-/// Hands out the next that the pipe tells.
-pub fn poll(place: &mut PipePlace, alloc: Global, event: &mut Event, out: &mut [u8]) -> Answer
-    ensures { OnPipe place.old.handle.value place.new.handle.value result ((event.new ≡ event.old) × (out.new ≡ out.old))
-        (λ p q. Polls p q result event.old event.new out.old out.new) }
+/// Hands out the next requests that are done.
+pub fn poll(
+    place: &mut PipePlace,
+    alloc: Global,
+    out: &mut [u64],
+    first: &mut u64,
+) -> Result<usize, PipeErr>
+    ensures { OnPipe place.old.handle.value place.new.handle.value result ((out.new ≡ out.old) × (first.new ≡ first.old))
+        (λ p q. PollsSome p q out.old out.new first.new) }
 {
     let Some(mut pipe) = place.take(alloc) else {
-        return Answer::Invalid;
+        return Err(PipeErr::Invalid);
     };
-    let answer = pipe.poll(event, out);
+    let count = pipe.poll(out, first);
     place.fill(pipe);
-    answer
+    Ok(count)
 }
 
-/// Whether each request is complete, and C was handed all that the pipe tells.
-pub fn drained(place: &mut PipePlace, alloc: Global) -> Answer
-    ensures { OnPipe place.old.handle.value place.new.handle.value result ⊤ (λ p q. Drains p q result) }
+/// Whether each request that was submitted was handed out.
+pub fn drained(place: &mut PipePlace, alloc: Global) -> Result<bool, PipeErr>
+    ensures { OnPipe place.old.handle.value place.new.handle.value result ⊤ Drains }
 {
-    let Some(mut pipe) = place.take(alloc) else {
-        return Answer::Invalid;
+    let Some(pipe) = place.take(alloc) else {
+        return Err(PipeErr::Invalid);
     };
-    let answer = pipe.drained();
+    let drained = pipe.window.is_drained();
     place.fill(pipe);
-    answer
+    Ok(drained)
+}
+
+/// Tells below which number no request waits in the backlog.
+pub fn started(place: &mut PipePlace, alloc: Global, number: &mut u64) -> Result<(), PipeErr>
+    ensures { OnPipe place.old.handle.value place.new.handle.value result (number.new ≡ number.old) (λ p q. Starts p q number.new) }
+{
+    let Some(pipe) = place.take(alloc) else {
+        return Err(PipeErr::Invalid);
+    };
+    *number = pipe.window.started();
+    place.fill(pipe);
+    Ok(())
 }
 
 /// Holds the queue.
-pub fn hold(place: &mut PipePlace, alloc: Global) -> Answer
-    ensures { OnPipe place.old.handle.value place.new.handle.value result ⊤ (λ p q. Holds p q result) }
+pub fn hold(place: &mut PipePlace, alloc: Global) -> Result<(), PipeErr>
+    ensures { OnPipe place.old.handle.value place.new.handle.value result ⊤ (λ p q. Holds p q true) }
 {
     let Some(mut pipe) = place.take(alloc) else {
-        return Answer::Invalid;
+        return Err(PipeErr::Invalid);
     };
-    let answer = pipe.hold();
+    let came = pipe.hold();
     place.fill(pipe);
-    answer
+    came
 }
 
 /// Lets the queue go.
-pub fn go(place: &mut PipePlace, alloc: Global) -> Answer
-    ensures { OnPipe place.old.handle.value place.new.handle.value result ⊤ (λ p q. Goes p q result) }
+pub fn go(place: &mut PipePlace, alloc: Global) -> Result<(), PipeErr>
+    ensures { OnPipe place.old.handle.value place.new.handle.value result ⊤ (λ p q. Holds p q false) }
 {
     let Some(mut pipe) = place.take(alloc) else {
-        return Answer::Invalid;
+        return Err(PipeErr::Invalid);
     };
-    let answer = pipe.go();
+    let came = pipe.go();
     place.fill(pipe);
-    answer
+    came
 }
 
-/// Names the workers that take from the pad.
-pub fn mask(place: &mut PipePlace, alloc: Global, bits: u32) -> Answer
-    ensures { OnPipe place.old.handle.value place.new.handle.value result ⊤ (λ p q. Masks p q bits result) }
+/// Names the workers that take.
+pub fn mask(place: &mut PipePlace, alloc: Global, bits: u64) -> Result<(), PipeErr>
+    ensures { OnPipe place.old.handle.value place.new.handle.value result ⊤ (λ p q. Masks p q bits) }
 {
     let Some(mut pipe) = place.take(alloc) else {
-        return Answer::Invalid;
+        return Err(PipeErr::Invalid);
     };
-    let answer = pipe.mask(bits);
+    let came = pipe.mask(bits);
     place.fill(pipe);
-    answer
+    came
 }
 
-/// Frees what is in the place.
+/// Frees what is in the place. Requests in flight are their owner's again.
 pub fn free(place: &mut PipePlace, alloc: Global)
     ensures { place.new.handle.value ≡ None }
 {
     drop(place.take(alloc));
-}
-
-/// Frees what is in the place.
-pub fn free_job(task: &mut TaskPlace, alloc: Global)
-    ensures { task.new.handle.value ≡ None }
-{
-    drop(task.take(alloc));
 }

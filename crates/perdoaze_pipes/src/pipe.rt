@@ -1,225 +1,206 @@
-//! A pipe: one pipeline, and what it delivered and C wasn't handed yet.
+//! A pipe: the addresses of requests in flight.
 
-ghost use Rattle.std.specs.Prelude.{◌≡◌, ◌≢◌, ◌≤◌, ◌<◌, ◌++◌, [], ◌∷◌, true, false, List, length, drop, Some, None, MatchResult, MatchBool};
-ghost use Rattle.kc_base.specs.declared.callback_list.Callback.{Callback as Told};
-ghost use Rattle.transforms.specs.declared.request.Finished.{Finished as Outcome};
-ghost use Rattle.perdoaze_pipes.specs.Calls.{Drains};
-ghost use Rattle.perdoaze_pipes.specs.Submission.{Begins};
-ghost use Rattle.perdoaze_pipes.specs.declared.answer.Answer.TheVariants as answers;
-ghost use Rattle.perdoaze_pipes.specs.Polls.{IsRefilled, IsCollected, collecting, Tells, HasNoRoom, Polls};
+ghost use Rattle.std.specs.Prelude.{◌≡◌, ◌↔◌, ◌≤◌, ◌-◌, ◌^◌, true, false, IsTrue, MatchResult};
+ghost use Rattle.perdoaze_pipes.specs.Pipes as pipes;
+ghost use Rattle.perdoaze_pipes.specs.Pipes.{IsTaken, Begins, Submits, Takes, Finishes, Polls, Holds, Masks};
+ghost use Rattle.perdoaze_pipes.specs.declared.pipe_error.PipeErr.TheVariants as errors;
 
-use crate::answer::Answer;
-use crate::event::Event;
-use crate::laws::board_laws;
-use crate::requests::Requests;
-use crate::shapes::{is_shape, shape_of};
-use board::BoardErr;
-use kc_base::{Callback, Callbacks};
+use crate::pipe_error::PipeErr;
+use reorder_window::{Refusal, Window};
 use std::alloc::Global;
-use std::marker::Model;
-use transforms::Finished;
 
-/// A pipe. Contracts see its number, the pipeline with its history, and what that delivered and C wasn't handed yet.
+/// What a pipe is.
+#[derive(Clone, Copy, Debug, PartialEq, Eq)]
+pub enum PipeKind {
+    /// Its requests run beside one another, on the workers of a mask that may change within these bits.
+    Pcrypt(u64),
+    /// Its requests run one at a time, on any worker.
+    Cryptd,
+    /// Its requests wait in a queue, and run beside one another.
+    CryptdPcrypt,
+}
+
+/// A pipe. A request is its address to it, which it keeps and hands out, and never looks behind.
 #[derive(Drop)]
 pub struct Pipe {
-    pub(crate) alloc: Global,
-    pub(crate) id: u64,
-    pub(crate) requests: Requests,
-    inbox: Vec<Callback<Finished>>,
-    /// The place in `inbox` of the next that is handed out.
-    next: usize,
-    /// Whether something may have been told since the last collect.
-    pub(crate) may_tell: bool,
+    pub kind: PipeKind,
+    pub window: Window<u64>,
 }
 
-impl Model for Pipe {
-    ghost use Rattle.std.specs.Prelude.{◌≡◌, ◌≤◌, false, length, drop};
-    ghost use Rattle.perdoaze_pipes.specs.Calls.{Drains};
-    ghost use Rattle.perdoaze_pipes.specs.Submission.{Begins};
-    ghost use Rattle.perdoaze_pipes.specs.declared.answer.Answer.TheVariants as answers;
-    ghost use Rattle.perdoaze_pipes.specs.Polls.{PipeOf, IsLeft, IsCollected};
-
-    ghost Value = { PipeOf };
-
-    ghost view = { λ p. record { id = p.id; order = p.requests; left = drop p.next p.inbox.items } };
-
-    ghost invariant = { λ p. (p.next ≤ length p.inbox.items)
-        × IsLeft p.requests.history (drop p.next p.inbox.items)
-        × (p.may_tell ≡ false → IsCollected p.requests.history) };
-}
-
-/// Copies all of `from` to the front of `into`.
-fn copy_front(from: &[u8], into: &mut [u8])
-    requires { length from.now ≤ length into.old }
-    ensures { into.new ≡ from.now ++ drop (length from.now) into.old }
+/// Whether there is such a kind, with such numbers.
+fn is_taken(kind: u32, room: usize, max: usize, workers: u32) -> bool
+    ensures { IsTrue result ↔ IsTaken kind room max workers }
 {
-    into[..from.len()].copy_from_slice(from);
+    1 <= kind
+        && kind <= 3
+        && 1 <= room
+        && (kind == 1 || 1 <= max)
+        && (kind == 2 || 1 <= workers && workers <= 64)
 }
 
-/// Tells C of a callback. False where there is no room for its bytes.
-fn tell(callback: &Callback<Finished>, event: &mut Event, out: &mut [u8]) -> bool
-    ensures { MatchBool result
-        (Tells callback.now event.new out.old out.new)
-        (HasNoRoom callback.now event.new out.old × (out.new ≡ out.old)) }
+/// The mask of so many workers.
+fn mask_of(workers: u32) -> u64
+    requires least { 1 ≤ workers }
+    requires most { workers ≤ 64 }
+    ensures { result ≡ 2 ^ workers - 1 }
 {
-    let (number, size, kind, status) = match callback {
-        Callback::Started(number) => (*number, 0, 1, 0),
-        Callback::Done(number, Finished::Bytes(made)) => (*number, made.len(), 2, 0),
-        Callback::Done(number, Finished::BadMsg) => (*number, 0, 2, -74),
-        Callback::Done(number, Finished::Invalid) => (*number, 0, 2, -22),
-    };
-    *event = Event {
-        number,
-        size,
-        kind,
-        status,
-    };
-    match callback {
-        Callback::Done(_, Finished::Bytes(made)) => {
-            if out.len() < made.len() {
-                return false;
-            }
-            copy_front(made.as_slice(), out);
-            true
-        }
-        _ => true,
+    if workers == 64 {
+        return u64::MAX;
+    }
+    (1u64 << workers) - 1
+}
+
+/// A window, under the error of pipes.
+fn window(
+    alloc: Global,
+    room: usize,
+    max: usize,
+    serial: bool,
+    mask: u64,
+) -> Result<Window<u64>, PipeErr>
+    ensures { MatchResult result (λ w. w ≡ pipes.window_of room max serial mask) (λ e. e ≡ errors.NoMemory) }
+{
+    match Window::new(alloc, room, max, serial, mask) {
+        Ok(window) => Ok(window),
+        Err(_) => Err(PipeErr::NoMemory),
     }
 }
 
 impl Pipe {
-    /// A pipe of this kind, of which nothing was asked: 1 is a pad of `lists` reorder lists, 1 to 16; 2 a queue of
-    /// which `max` requests wait before its backlog begins, at least 1; 3 such a queue whose requests go on to such a
-    /// pad.
-    pub fn new(alloc: Global, id: u64, kind: u32, max: u32, lists: u32) -> Result<Pipe, Answer>
-        ensures { MatchResult result
-            (λ p. Begins (Some p) id kind max lists answers.Done)
-            (λ a. Begins None id kind max lists a) }
+    /// A pipe of this kind, with room for so many requests in flight: 1 is pcrypt, whose workers are those below
+    /// `workers`; 2 cryptd, of which `max` requests wait before its backlog begins; 3 cryptd in front of pcrypt.
+    pub fn new(
+        alloc: Global,
+        kind: u32,
+        room: usize,
+        max: usize,
+        workers: u32,
+    ) -> Result<Pipe, PipeErr>
+        ensures { Begins kind room max workers result }
     {
-        let Some(shape) = shape_of(kind, max, lists) else {
-            return Err(Answer::Invalid);
-        };
-        if !is_shape(shape) {
-            return Err(Answer::Invalid);
+        if !is_taken(kind, room, max, workers) {
+            return Err(PipeErr::Invalid);
         }
-        let Ok(requests) = Requests::new(alloc, shape) else {
-            return Err(Answer::NoMemory);
-        };
+        if kind == 1 {
+            let mask = mask_of(workers);
+            return Ok(Pipe {
+                kind: PipeKind::Pcrypt(mask),
+                window: window(alloc, room, room, false, mask)?,
+            });
+        }
+        if kind == 2 {
+            return Ok(Pipe {
+                kind: PipeKind::Cryptd,
+                window: window(alloc, room, max, true, u64::MAX)?,
+            });
+        }
         Ok(Pipe {
-            alloc,
-            id,
-            requests,
-            inbox: Vec::new(alloc),
-            next: 0,
-            may_tell: true,
+            kind: PipeKind::CryptdPcrypt,
+            window: window(alloc, room, max, false, mask_of(workers))?,
         })
     }
 
-    /// Whether something is left.
-    fn is_left(&self) -> bool
-        ensures { MatchBool result (self.now.left ≢ []) (self.now.left ≡ []) }
+    /// Whether it accepts nothing: it is pcrypt with no worker in its mask.
+    fn is_closed(&self) -> bool
+        ensures { IsTrue result ↔ pipes.IsClosed self.now.kind self.now.window.mask }
     {
-        if self.next < self.inbox.len() {
-            return true;
+        match self.kind {
+            PipeKind::Pcrypt(_) => self.window.mask() == 0,
+            _ => false,
         }
-        false
     }
 
-    /// Where nothing is left, collects what was told.
-    fn collect(&mut self) -> Result<(), BoardErr>
-        requires { self.old.left ≡ [] }
-        ensures { MatchResult result (λ _. self.new ≡ collecting self.old) (λ _. self.new ≡ self.old) }
+    /// Takes requests in from the first on, until one is refused. How many; where none of some is, why not. `first` is
+    /// the number of the first, and those below `started` don't wait in the backlog.
+    pub fn submit(
+        &mut self,
+        addresses: &[u64],
+        backlog: bool,
+        first: &mut u64,
+        started: &mut u64,
+    ) -> Result<usize, PipeErr>
+        ensures { Submits self.old self.new addresses.now backlog first.new started.new result }
     {
-        board_laws();
-        let mut told = Callbacks::new(self.alloc);
-        self.requests.collect(&mut told)?;
-        self.inbox = told.into_vec();
-        self.next = 0;
-        self.may_tell = false;
+        *first = self.window.submitted();
+        *started = self.window.started();
+        if self.is_closed() {
+            return Err(PipeErr::Invalid);
+        }
+        let accepted = self.window.submit_many(addresses, backlog);
+        if accepted.count > 0 {
+            return Ok(accepted.count);
+        }
+        match accepted.refusal {
+            None => Ok(0),
+            Some(Refusal::Full) => Err(PipeErr::Again),
+            Some(Refusal::NoSpace) => Err(PipeErr::NoSpace),
+            Some(Refusal::Ended) => Err(PipeErr::Overflow),
+        }
+    }
+
+    /// Hands requests to the worker, at most as many as `out` has places. How many, from number `first` on.
+    pub fn take(&mut self, worker: u32, out: &mut [u64], first: &mut u64) -> usize
+        ensures { Takes self.old self.new worker out.old out.new first.new result }
+    {
+        *first = self.window.taken();
+        self.window.take_many(worker, out)
+    }
+
+    /// Records that the worker is done with requests, from number `first` on, until one is none that it runs. How many.
+    /// `Invalid` where none of some is.
+    pub fn finish(&mut self, worker: u32, first: u64, count: usize) -> Result<usize, PipeErr>
+        ensures { Finishes self.old self.new worker first count result }
+    {
+        let done = self.window.finish_many(first, count as u64, worker);
+        if done == 0 && count > 0 {
+            return Err(PipeErr::Invalid);
+        }
+        Ok(done as usize)
+    }
+
+    /// Hands out the next requests that are done, in order, at most as many as `out` has places. How many, from number
+    /// `first` on.
+    pub fn poll(&mut self, out: &mut [u64], first: &mut u64) -> usize
+        ensures { Polls self.old self.new out.old out.new first.new result }
+    {
+        *first = self.window.polled();
+        self.window.poll_many(out)
+    }
+
+    /// From now on no worker takes, until `go`. `Invalid` where the pipe has no queue.
+    pub fn hold(&mut self) -> Result<(), PipeErr>
+        ensures { Holds self.old self.new true result }
+    {
+        if matches!(self.kind, PipeKind::Pcrypt(_)) {
+            return Err(PipeErr::Invalid);
+        }
+        self.window.hold();
         Ok(())
     }
 
-    /// Whether something was told since the last collect: where not, no collect delivers more.
-    fn has_collected(&self) -> bool
-        ensures { result ≡ true → IsCollected self.now.order.history }
+    /// From now on workers take again. `Invalid` where the pipe has no queue.
+    pub fn go(&mut self) -> Result<(), PipeErr>
+        ensures { Holds self.old self.new false result }
     {
-        !self.may_tell
+        if matches!(self.kind, PipeKind::Pcrypt(_)) {
+            return Err(PipeErr::Invalid);
+        }
+        self.window.go();
+        Ok(())
     }
 
-    /// Where nothing is left, collects what was told. Answers whether something is left.
-    fn refill(&mut self) -> Result<bool, BoardErr>
-        ensures { MatchResult result
-            (λ some. IsRefilled self.old self.new
-            × MatchBool some (self.new.left ≢ []) ((self.new.left ≡ []) × IsCollected self.new.order.history))
-            (λ _. self.new ≡ self.old) }
+    /// From now on the workers whose bits are set take: bit i stands for worker i. Where none is set, the pipe accepts
+    /// nothing. `Invalid` where it isn't pcrypt, or a bit stands at or above the number of its workers.
+    pub fn mask(&mut self, bits: u64) -> Result<(), PipeErr>
+        ensures { Masks self.old self.new bits result }
     {
-        board_laws();
-        if self.is_left() {
-            return Ok(true);
+        let PipeKind::Pcrypt(full) = self.kind else {
+            return Err(PipeErr::Invalid);
+        };
+        if bits > full {
+            return Err(PipeErr::Invalid);
         }
-        if self.has_collected() {
-            return Ok(false);
-        }
-        self.collect()?;
-        Ok(self.is_left())
-    }
-
-    /// Whether each request is complete, and C was handed all that was told: `Yes`, or `Done` where not.
-    pub fn drained(&mut self) -> Answer
-        ensures { Drains self.old self.new result }
-    {
-        board_laws();
-        if self.is_left() {
-            return Answer::Done;
-        }
-        let mut told = Callbacks::new(self.alloc);
-        match self.requests.drain(&mut told) {
-            Ok(true) => {
-                self.inbox = told.into_vec();
-                self.next = 0;
-                self.may_tell = false;
-                if self.is_left() {
-                    Answer::Done
-                } else {
-                    Answer::Yes
-                }
-            }
-            Ok(false) => Answer::Done,
-            Err(_) => Answer::NoMemory,
-        }
-    }
-
-    /// Hands out the next callback, where something is left.
-    fn hand_out(&mut self, event: &mut Event, out: &mut [u8]) -> bool
-        requires { self.old.left ≢ [] }
-        ensures { MatchBool result
-            ((next : Told Outcome) × (self.old.left ≡ next ∷ self.new.left)
-            × (self.new ≡ record self.old { left = self.new.left }) × Tells next event.new out.old out.new)
-            ((self.new ≡ self.old)
-            × ((next : Told Outcome) × (rest : List (Told Outcome)) × (self.old.left ≡ next ∷ rest)
-            × HasNoRoom next event.new out.old)
-            × (out.new ≡ out.old)) }
-    {
-        if !tell(&self.inbox[self.next], event, out) {
-            return false;
-        }
-        self.next += 1;
-        true
-    }
-
-    /// Hands out the next of what the pipeline tells, in its order. `Done` where there is none.
-    pub fn poll(&mut self, event: &mut Event, out: &mut [u8]) -> Answer
-        ensures { Polls self.old self.new result event.old event.new out.old out.new }
-    {
-        match self.refill() {
-            Ok(true) => {
-                if self.hand_out(event, out) {
-                    Answer::Yes
-                } else {
-                    Answer::NoRoom
-                }
-            }
-            Ok(false) => Answer::Done,
-            Err(_) => Answer::NoMemory,
-        }
+        self.window.set_mask(bits);
+        Ok(())
     }
 }
