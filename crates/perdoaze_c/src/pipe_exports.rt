@@ -1,4 +1,5 @@
-//! What C calls of pipes, and of requests that go through them. No pointer is NULL here: the functions of c/ see to that.
+//! What C calls of pipes, and of requests that go through them. No pointer is NULL here: the functions of c/ see to
+//! that.
 
 ghost use Rattle.std.specs.Prelude.{◌≡◌, ◌-◌, ◌^◌, min, ⊤, ℕ, Bool, true, false, None, Result};
 ghost use Rattle.std.specs.List.{AllZip};
@@ -151,7 +152,8 @@ pub extern "C" fn perdoaze_raw_pipe_free(place: &mut PipePlace, alloc: Global)
 /// A request is about to be submitted.
 #[unsafe(no_mangle)]
 pub extern "C" fn perdoaze_raw_op_ready(op: &mut Op<'_>) -> i32
-    ensures { (came : Result Unit PipeErr) × (result ≡ unit_number came) × Moves op.old op.new 0 1 came × (owner_of op.new ≡ owner_of op.old) }
+    ensures { (came : Result Unit PipeErr) × (result ≡ unit_number came)
+        × Moves op.old op.new 0 1 came × (owner_of op.new ≡ owner_of op.old) }
 {
     unit_code(op.ready())
 }
@@ -159,7 +161,8 @@ pub extern "C" fn perdoaze_raw_op_ready(op: &mut Op<'_>) -> i32
 /// No pipe took the request in.
 #[unsafe(no_mangle)]
 pub extern "C" fn perdoaze_raw_op_withdraw(op: &mut Op<'_>) -> i32
-    ensures { (came : Result Unit PipeErr) × (result ≡ unit_number came) × Moves op.old op.new 1 0 came × (owner_of op.new ≡ owner_of op.old) }
+    ensures { (came : Result Unit PipeErr) × (result ≡ unit_number came)
+        × Moves op.old op.new 1 0 came × (owner_of op.new ≡ owner_of op.old) }
 {
     unit_code(op.withdraw())
 }
@@ -167,7 +170,8 @@ pub extern "C" fn perdoaze_raw_op_withdraw(op: &mut Op<'_>) -> i32
 /// A worker took the request under this number.
 #[unsafe(no_mangle)]
 pub extern "C" fn perdoaze_raw_op_begin(op: &mut Op<'_>, number: u64, worker: u32) -> i32
-    ensures { (came : Result Unit PipeErr) × (result ≡ unit_number came) × Moves op.old op.new 1 2 came × Begun op.old op.new number worker came }
+    ensures { (came : Result Unit PipeErr) × (result ≡ unit_number came)
+        × Moves op.old op.new 1 2 came × Begun op.old op.new number worker came }
 {
     unit_code(op.begin(number, worker))
 }
@@ -193,7 +197,8 @@ pub extern "C" fn perdoaze_raw_ops_run(slot: &mut Slot, alloc: Global, ops: &mut
 /// The request was handed out under this number, and is its owner's again.
 #[unsafe(no_mangle)]
 pub extern "C" fn perdoaze_raw_op_end(op: &mut Op<'_>, number: u64) -> i32
-    ensures { (came : Result Unit PipeErr) × (result ≡ unit_number came) × Ends op.old op.new number came × (owner_of op.new ≡ owner_of op.old) }
+    ensures { (came : Result Unit PipeErr) × (result ≡ unit_number came)
+        × Ends op.old op.new number came × (owner_of op.new ≡ owner_of op.old) }
 {
     unit_code(op.end(number))
 }

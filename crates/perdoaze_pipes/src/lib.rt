@@ -1,5 +1,5 @@
-//! Pipes as C calls them: requests in the caller's own memory, which run under the caller's threads and come back in the
-//! order of submission. `perdoaze_c` exports the calls.
+//! Pipes as C calls them: requests in the caller's own memory, which run under the caller's threads and come back in
+//! the order of submission. `perdoaze_c` exports the calls.
 #![tactic(auto)]
 
 pub mod calls;

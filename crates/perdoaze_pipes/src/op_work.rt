@@ -80,8 +80,8 @@ impl Op<'_> {
         self.written = 0;
     }
 
-    /// Does the work of a request that a worker has, once, under the transform in the slot. Nothing else is written than
-    /// the text, `status` and `written`. No memory is taken. `Invalid` where no worker has it, or it was run.
+    /// Does the work of a request that a worker has, once, under the transform in the slot. Nothing else is written
+    /// than the text, `status` and `written`. No memory is taken. `Invalid` where no worker has it, or it was run.
     pub fn run(&mut self, slot: &mut Slot, alloc: Global) -> Result<(), PipeErr>
         ensures kept { slot.new.handle.value ≡ slot.old.handle.value }
         ensures came { Runs slot.old.handle.value self.old self.new result }

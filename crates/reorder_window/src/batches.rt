@@ -41,8 +41,8 @@ impl<R: Copy> Window<R> {
         }
     }
 
-    /// Hands the requests of the least numbers that nobody has taken to the worker, at most as many as `out` has places.
-    /// How many these are: they stand in the front of `out`, under the next numbers.
+    /// Hands the requests of the least numbers that nobody has taken to the worker, at most as many as `out` has
+    /// places. How many these are: they stand in the front of `out`, under the next numbers.
     pub fn take_many(&mut self, worker: u32, out: &mut [R]) -> usize
         ensures taken { self.old.waiting ≡ take result out.new ++ self.new.waiting }
         ensures came { self.new ≡ with_taken_each self.old worker (take result out.new) self.new.waiting }
@@ -78,8 +78,8 @@ impl<R: Copy> Window<R> {
         most
     }
 
-    /// Hands out the next requests that are done, in order, at most as many as `out` has places. How many these are: they
-    /// stand in the front of `out`.
+    /// Hands out the next requests that are done, in order, at most as many as `out` has places. How many these are:
+    /// they stand in the front of `out`.
     pub fn poll_many(&mut self, out: &mut [R]) -> usize
         ensures polled { map request_of (take result self.old.running) ≡ take result out.new }
         ensures done { All (λ x. x.is_done ≡ true) (take result self.old.running) }

@@ -199,8 +199,8 @@ impl<R: Copy> Window<R> {
         }
     }
 
-    /// Hands the request of the least number that nobody has taken to the worker. `None` exactly where there is none, or
-    /// the worker may not take.
+    /// Hands the request of the least number that nobody has taken to the worker. `None` exactly where there is none,
+    /// or the worker may not take.
     pub fn take(&mut self, worker: u32) -> Option<(u64, R)>
         ensures came { MatchOption result
             (NoneFor self.old worker × (self.new ≡ self.old))
@@ -249,8 +249,8 @@ impl<R: Copy> Window<R> {
         true
     }
 
-    /// Hands out the request of the least number that wasn't handed out, where it is done: `None` exactly where it isn't,
-    /// or none is in flight.
+    /// Hands out the request of the least number that wasn't handed out, where it is done: `None` exactly where it
+    /// isn't, or none is in flight.
     pub fn poll(&mut self) -> Option<(u64, R)>
         ensures came { MatchOption result
             ((first_is_done self.old.running ≡ false) × (self.new ≡ self.old))
