@@ -70,7 +70,8 @@ static void encrypt_each(struct perdoaze *tfm, struct perdoaze_request *group, s
 	for (size_t i = 0; i < count; i++) {
 		struct perdoaze_request *r = &group[i];
 
-		r->status = perdoaze_encrypt_in_place(tfm, r->iv, r->iv_len, r->aad, r->aad_len, r->buffer, r->buffer_len, r->n, &r->written);
+		r->status = perdoaze_encrypt_in_place(tfm, r->iv, r->iv_len, r->aad, r->aad_len, r->buffer, r->buffer_len, r->n,
+						      &r->written);
 	}
 }
 

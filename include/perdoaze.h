@@ -159,8 +159,8 @@ struct perdoaze_request {
 
 /** Makes the transform of that name, with no key and the greatest tag, in the place of the one that was there. By the name of an
  *  algorithm it is that of the driver of greatest priority, whose memory accesses depend on no key and no text. By the name of a
- *  driver it is exactly that one. `pcrypt(X)`, `cryptd(X)` and `cryptd(pcrypt(X))` are X. -ENOENT: no driver has the name. -EINVAL: `name` is NULL, or no name of at most 127 bytes, 8
- *  levels and 4 arguments. -ENOMEM. Where the call fails, the place has none. */
+ *  driver it is exactly that one. `pcrypt(X)`, `cryptd(X)` and `cryptd(pcrypt(X))` are X. -ENOENT: no driver has the name. -EINVAL:
+ *  `name` is NULL, or no name of at most 127 bytes, 8 levels and 4 arguments. -ENOMEM. Where the call fails, the place has none. */
 PERDOAZE_API int perdoaze_init(struct perdoaze *tfm, const char *name);
 
 /** Sets the key. -EINVAL: the transform doesn't take it, or the place has none. -ENOMEM. */

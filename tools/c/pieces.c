@@ -1,5 +1,5 @@
-/* Pieces that overlap are refused, whatever their order; the list of pieces is never written; and pieces that are NULL are left out, however
- * many there are. With the word "speed" it tells how long the test of overlaps takes. */
+/* Pieces that overlap are refused, whatever their order; the list of pieces is never written; and pieces that are NULL are left out,
+ * however many there are. With the word "speed" it tells how long the test of overlaps takes. */
 #define _DEFAULT_SOURCE
 #include <errno.h>
 #include <perdoaze.h>
@@ -117,7 +117,6 @@ static int under(const struct perdoaze_info *info, size_t count, size_t each, si
 	failed |= perdoaze_encrypt_in_place(&tfm, iv, info->iv_size, key, aad, same, sizeof same, n, &size);
 	failed |= perdoaze_encryptv_in_place(&tfm, iv, info->iv_size, key, aad, list, count + nulls, n, &size);
 	failed |= !!memcmp(memory, same, size);
-	failed |= perdoaze_decryptv(&tfm, iv, info->iv_size, key, aad, list, count + nulls, same, sizeof same, NULL) != (size == count * each ? 0 : info->kind == PERDOAZE_AEAD ? -EBADMSG : 0);
 	failed |= perdoaze_decryptv_in_place(&tfm, iv, info->iv_size, key, aad, list, count + nulls, size, &size);
 	for (size_t i = 0; i < n; i++)
 		failed |= memory[i] != 7;
