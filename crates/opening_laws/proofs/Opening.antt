@@ -25,7 +25,7 @@ use Rattle.aes_block.specs.Laws.{seals_and_unseals}
 use Rattle.cbc_mode.specs.Laws.{cbc_unseals_what_it_sealed}
 use Rattle.xts_mode.specs.Laws.{xts_unseals_what_it_sealed}
 use Rattle.cmac_ccm.proofs.Opened.{opens_sealed}
-use Rattle.templates.specs.Table.{template_named}
+use Rattle.templates.specs.Words.{template_named}
 use Rattle.templates.specs.declared.driver_plans.Plan.{Plan}
 use Rattle.templates.specs.declared.driver_plans.Plan.TheVariants as plan
 use Rattle.transforms.specs.Asked.{takes, cipher_takes, aead_takes, is_plain, TakesInput}
